@@ -1,5 +1,5 @@
 -- The floor of n / d for a positive d, as `n.div_euclid(d)` gives it: the greatest whole number z with d * z at most n.
-use Rattle.std.proofs.Common.{◌≡◌, zero, suc, ◌+◌, ◌≤◌, ◌↔◌, ℤ, pos, negsuc, ◌+ℤ◌, ◌*ℤ◌, ◌≤ℤ◌, ◌<ℤ◌, unsigned_abs, div-le_self, arith}
+use Rattle.std.proofs.Common.{◌≡◌, zero, suc, ◌≤◌, ◌↔◌, ℤ, pos, negsuc, ◌+ℤ◌, ◌*ℤ◌, ◌≤ℤ◌, ◌<ℤ◌, unsigned_abs, div-le_self, arith}
 use Rattle.std.proofs.lemmas.Int.{ints}
 use Rattle.std.specs.Int.{int_div_euclid}
 use Rattle.whole_numbers.proofs.Products.{mul-sum, mul_le, lt_of_mul}
@@ -39,8 +39,8 @@ pub floor-one : (n : ℤ) → int_div_euclid n (pos 1) ≡ n
 floor-one n = let b = floor_bounds n (pos 1) (omega (arith, ints)) in omega (arith, ints)
 
 -- a floor is no larger than what it is taken of
-pub abs-floor : (n d : ℤ) → unsigned_abs (int_div_euclid n d) ≤ unsigned_abs n + 1
-abs-floor (pos n) (pos d) = omega (arith, div-le_self n d)
-abs-floor (negsuc n) (pos d) = omega (arith, div-le_self n d)
-abs-floor (pos n) (negsuc d) = omega (arith, ints, div-le_self n (suc d))
-abs-floor (negsuc n) (negsuc d) = omega (arith, div-le_self n (suc d))
+pub abs-floor : (n d : ℤ) → pos 0 <ℤ d → unsigned_abs (int_div_euclid n d) ≤ unsigned_abs n
+abs-floor (pos n) (pos d) h = div-le_self n d
+abs-floor (negsuc n) (pos d) h = omega (arith, div-le_self n d)
+abs-floor (pos n) (negsuc d) h = absurd (omega (arith, ints))
+abs-floor (negsuc n) (negsuc d) h = absurd (omega (arith, ints))

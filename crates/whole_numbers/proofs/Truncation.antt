@@ -1,5 +1,5 @@
 -- The quotient that is rounded toward zero, `a / d`, and its remainder, `a % d`, which has the sign of a.
-use Rattle.std.proofs.Common.{◌≡◌, ◌≢◌, zero, suc, ◌<◌, ℤ, pos, negsuc, ◌+ℤ◌, ◌-ℤ◌, ◌*ℤ◌, ◌≤ℤ◌, ◌<ℤ◌, unsigned_abs, int_div, int_rem, refl, ap, mul-le-mul_left, arith}
+use Rattle.std.proofs.Common.{div-le_self, ◌≤◌, ◌≡◌, ◌≢◌, zero, suc, ◌<◌, ℤ, pos, negsuc, ◌+ℤ◌, ◌-ℤ◌, ◌*ℤ◌, ◌≤ℤ◌, ◌<ℤ◌, unsigned_abs, int_div, int_rem, refl, ap, mul-le-mul_left, arith}
 use Rattle.std.proofs.lemmas.Int.{ints, quot-rem, rem_below, unsigned_abs-mul}
 use Rattle.std.proofs.Math.IntN.{*ℤ_comm}
 use Rattle.whole_numbers.proofs.Products.{mul-difference}
@@ -79,3 +79,10 @@ exact-product d z h =
 -- a number without a remainder is the quotient's multiple
 pub product-exact : (a d : ℤ) → int_rem a d ≡ pos 0 → d *ℤ int_div a d ≡ a
 product-exact a d h = omega (arith, ints, quotient-remainder a d)
+
+-- a quotient is no larger than what is divided
+pub abs-div : (a d : ℤ) → unsigned_abs (int_div a d) ≤ unsigned_abs a
+abs-div (pos a) (pos d) = div-le_self a d
+abs-div (pos a) (negsuc d) = omega (arith, ints, div-le_self a (suc d))
+abs-div (negsuc a) (pos d) = omega (arith, ints, div-le_self (suc a) d)
+abs-div (negsuc a) (negsuc d) = div-le_self (suc a) (suc d)

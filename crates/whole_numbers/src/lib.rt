@@ -3,11 +3,27 @@
 //! std reads whole numbers linearly (`omega (arith, ints)`), and has few laws of their products and quotients. Those that
 //! the proofs of this repository need stand here once, in `proofs/Products.antt`, `proofs/Floors.antt` and
 //! `proofs/Truncation.antt`; another crate imports them as `Rattle.whole_numbers.proofs.Products.{mul-sum}`. The functions
-//! below have no code: their contracts state the laws, so that the check of this crate proves them.
+//! named after laws have no code: their contracts state the laws, so that the check of this crate proves them.
 #![tactic(auto)]
 
 ghost use Rattle.std.specs.Prelude.{◌≡◌, ◌≢◌, ◌<◌, ◌↔◌, ℤ, pos, ◌+ℤ◌, ◌-ℤ◌, ◌*ℤ◌, ◌≤ℤ◌, ◌<ℤ◌, unsigned_abs, int_div, int_rem};
-ghost use Rattle.std.specs.Int.{int_div_euclid};
+ghost use Rattle.std.specs.Int.{int_div_euclid, IsGcd};
+ghost use Rattle.whole_numbers.specs.Gcd.{gcd};
+
+/// The greatest common divisor, by Euclid's rule; that of 0 and 0 is 0.
+pub fn greatest_common_divisor(a: u128, b: u128) -> u128
+    ensures value { result ≡ gcd a b }
+    ensures greatest { IsGcd a b result }
+{
+    let mut x = a;
+    let mut y = b;
+    'steps: while y != 0 {
+        let rest = x % y;
+        x = y;
+        y = rest;
+    }
+    x
+}
 
 /// Products of sums and of products, under an order, and where they are 0.
 pub fn laws_of_products()
