@@ -1,7 +1,7 @@
 -- The greatest common divisor.
-use Rattle.std.proofs.Common.{◌≡◌, ℕ, zero, suc, ◌/◌, ◌%◌, ◌<◌, ◌≤◌, refl, arith}
+use Rattle.std.proofs.Common.{◌∙◌, ◌≡◌, ℕ, zero, suc, ◌/◌, ◌%◌, ◌<◌, ◌≤◌, refl, arith}
 use Rattle.std.specs.Int.{IsGcd}
-use Rattle.std.proofs.lemmas.Nat.Gcd.{IsGcd-from_zero, IsGcd-from_mod, IsGcd-swap, same_from_IsGcd}
+use Rattle.std.proofs.lemmas.Nat.Gcd.{IsGcd-from_zero, IsGcd-from_mod, IsGcd-swap, same_from_IsGcd, dvd_trans}
 use Rattle.std.proofs.lemmas.Nat.{le-div}
 use Rattle.std.proofs.Math.Nat.{pos_of_dvd_of_pos, le_of_dvd, eq-one_of_dvd-one}
 use Rattle.whole_numbers.specs.Gcd.{euclid, gcd}
@@ -38,3 +38,20 @@ quotient_positive a b h =
     let g = gcd a b in
     let p : 0 < g = gcd_positive a b h in
     le-div 1 a g p (omega (arith, gcd_le a b h))
+
+pub gcd-assoc : (a b c : ℕ) → gcd (gcd a b) c ≡ gcd a (gcd b c)
+gcd-assoc a b c =
+    let ab = IsGcd-gcd a b in
+    let bc = IsGcd-gcd b c in
+    let l = IsGcd-gcd (gcd a b) c in
+    let all : IsGcd a (gcd b c) (gcd (gcd a b) c) =
+        (dvd_trans _ l.0 ab.0,
+         bc.2 _ (dvd_trans _ l.0 ab.1) l.1,
+         λ d p q. l.2 d (ab.2 d p (dvd_trans d q bc.0)) (dvd_trans d q bc.1)) in
+    same_from_IsGcd a (gcd b c) _ _ all (IsGcd-gcd a (gcd b c))
+
+pub zero-gcd : (a : ℕ) → gcd 0 a ≡ a
+zero-gcd a = gcd-comm 0 a ∙ gcd-zero a
+
+pub one-gcd : (a : ℕ) → gcd 1 a ≡ 1
+one-gcd a = gcd-comm 1 a ∙ gcd-one a
