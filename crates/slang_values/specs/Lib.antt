@@ -1,0 +1,5 @@
+pub mod Number
+pub mod Value
+pub mod Tree
+pub mod Typing
+pub mod Laws
