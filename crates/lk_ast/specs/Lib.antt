@@ -1,1 +1,3 @@
 pub mod ClaimTree
+pub mod ExprTree
+pub mod ProgramTree

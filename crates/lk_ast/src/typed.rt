@@ -1,6 +1,9 @@
+ghost use Rattle.std.specs.Prelude.{◌≡◌, IfOk};
+
 use crate::text::Text;
 use crate::tree::Place;
 use sqlite_items::{Boxed, Items};
+use std::alloc::{AllocError, Global};
 
 /// The number of a node of the text, which is a place in `Typed::nodes`.
 #[derive(Clone, Copy, Debug, PartialEq, Eq)]
@@ -28,6 +31,24 @@ pub enum Claim {
     Var(u32),
     Not(Boxed<Claim>),
     And(Boxed<Claim>, Boxed<Claim>),
+}
+
+impl Claim {
+    /// Another copy of this claim.
+    pub fn copy(&self, alloc: Global) -> Result<Claim, AllocError>
+        ensures { IfOk result (λ c. c ≡ self.now) }
+    {
+        match self {
+            Claim::True => Ok(Claim::True),
+            Claim::False => Ok(Claim::False),
+            Claim::Var(number) => Ok(Claim::Var(*number)),
+            Claim::Not(claim) => Ok(Claim::Not(Boxed::new(alloc, claim.get().copy(alloc)?)?)),
+            Claim::And(left, right) => Ok(Claim::And(
+                Boxed::new(alloc, left.get().copy(alloc)?)?,
+                Boxed::new(alloc, right.get().copy(alloc)?)?,
+            )),
+        }
+    }
 }
 
 /// A claim of the text, with its node.

@@ -1,0 +1,4 @@
+pub mod Tables
+pub mod NotedClaims
+pub mod Scopes
+pub mod Methods

@@ -1,0 +1,3 @@
+pub mod Fault
+pub mod Refusal
+pub mod Typing
