@@ -155,8 +155,8 @@ module _ {A : Type 0} (records : Records) (fine : AreWellFormed records) (types 
         subst (λ u. HasType records (updated (value records names e a) (number_of (value records names e i)) (value records names e x)) u) (sym h.0)
         (HasType-updated records (value records names e a) (number_of (value records names e i)) (value records names e x) t on_sequence (HasType-value x t e h.3))
     HasType-value (quantified q low high body) s e h = h.0
-    HasType-value (listed (sequence_of t) ts) s e h = (h.0, EachHasType-values ts t e h.1)
-    HasType-value (listed (record_of n) ts) s e h = (h.0, HaveTypes-values ts (fields records n) e h.1)
+    HasType-value (listed (sequence_of t) ts) s e h = (h.0, EachHasType-values ts t e h.2)
+    HasType-value (listed (record_of n) ts) s e h = (h.0, HaveTypes-values ts (fields records n) e h.2)
 
     EachHasType-values : (ts : Trees A) (s : ValueType) (e : Bounds) → EachIsTyped records types ts s → EachHasType records (values records names e ts) s
     EachHasType-values no_trees s e h = tt

@@ -3,3 +3,4 @@ pub mod Value
 pub mod Tree
 pub mod Typing
 pub mod Laws
+pub mod Measure

@@ -1,7 +1,7 @@
 -- Which trees are well typed, and of which type.
-use Rattle.std.specs.Prelude.{◌≡◌, ℕ, suc, ◌<◌, List, [], ◌∷◌, length, get_or, Option, Some, ⊤}
+use Rattle.std.specs.Prelude.{◌≡◌, ℕ, suc, ◌<◌, List, [], ◌∷◌, length, get_or, Option, Some, true, ⊤}
 use Rattle.std.specs.Option.{unwrap_or}
-use Rattle.slang_values.specs.Value.{ValueType, unit_type, number_type, truth_type, sequence_type, record_type, Records, fields, element_type, field_type, Value, HasType}
+use Rattle.slang_values.specs.Value.{ValueType, unit_type, number_type, truth_type, sequence_type, record_type, Records, fields, element_type, field_type, is_known, Value, HasType}
 use Rattle.slang_values.specs.Tree.{Tree, literal, truth_literal, name, bound, unary, binary, update, quantified, listed, Trees, no_trees, tree_then, sequence_of, record_of}
 use Rattle.slang_values.specs.declared.operators.Unary.{Unary}
 use Rattle.slang_values.specs.declared.operators.Binary.{Binary}
@@ -79,8 +79,8 @@ abbrev mutual
       (t ≡ sequence_type (type_of records types x)) × IsTyped records types a t × IsTyped records types i number_type × IsTyped records types x (type_of records types x)
   IsTyped records types (quantified q low high body) t =
       (t ≡ truth_type) × IsTyped records types low number_type × IsTyped records types high number_type × IsTyped records types body truth_type
-  IsTyped records types (listed (sequence_of s) ts) t = (t ≡ sequence_type s) × EachIsTyped records types ts s
-  IsTyped records types (listed (record_of n) ts) t = (t ≡ record_type n) × AreTyped records types ts (fields records n)
+  IsTyped records types (listed (sequence_of s) ts) t = (t ≡ sequence_type s) × (is_known records s ≡ true) × EachIsTyped records types ts s
+  IsTyped records types (listed (record_of n) ts) t = (t ≡ record_type n) × (n < length records) × AreTyped records types ts (fields records n)
 
   -- each of the trees is of type t
   pub EachIsTyped : {A : Type 0} → Records → NameTypes A → Trees A → ValueType → Type 0
