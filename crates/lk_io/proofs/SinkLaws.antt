@@ -3,7 +3,9 @@ use Rattle.std.proofs.Common.{◌≡◌, ℕ, List, [], ◌++◌, refl, sym, ◌
 use Rattle.std.proofs.KnownBytes.{Appends-nil, Appends-trans}
 use Rattle.std.proofs.lemmas.List.{append_assoc}
 use Rattle.lk_io.specs.Run.{run}
-use Rattle.lk_io.specs.Sink.{SinkState, SinkRun, Appends, GivesPart, IsQuiet, IsFault, IsRefusal}
+use Rattle.lk_io.specs.Sink.{SinkState, SinkRun, Appends, GivesPart, IsQuiet, IsFault, IsRefusal, IsCounted}
+use Rattle.lk_io.specs.declared.sinks.SinkEnd.{SinkEnd}
+use Rattle.lk_io.specs.declared.sinks.SinkEnd.TheVariants.{Failed, NoMemory}
 
 pub Appends-none : (a : SinkState) → Appends (run a a) []
 Appends-none a = record { given = Appends-nil a.given }
@@ -42,3 +44,7 @@ IsFault-then first second = record { faults = rw (← first.faults) second.fault
 
 pub IsRefusal-then : {a b c : SinkState} → IsQuiet (run a b) → IsRefusal (run b c) → IsRefusal (run a c)
 IsRefusal-then first second = record { faults = second.faults ∙ first.faults; refusals = rw (← first.refusals) second.refusals }
+
+pub IsCounted-then : {a b : SinkState} (c : SinkState) (end : SinkEnd) → IsQuiet (run a b) → IsCounted (run b c) end → IsCounted (run a c) end
+IsCounted-then c Failed first second = IsFault-then first second
+IsCounted-then c NoMemory first second = IsRefusal-then first second

@@ -1,5 +1,5 @@
 -- What a sink of bytes tells, and what its calls do to that.
-use Rattle.std.specs.Prelude.{◌≡◌, ℕ, ◌≤◌, List, ◌++◌, take, length, Option, Result, Ok, Err, IfOk, OnErr}
+use Rattle.std.specs.Prelude.{◌≡◌, ℕ, ◌≤◌, List, ◌++◌, take, length, Option, Result, MatchResult, IfOk, OnErr}
 use Rattle.std.specs.Io.KnownBytes.{Keeps, Appends as gains}
 use Rattle.lk_io.specs.Run.{Run, Rose}
 use Rattle.lk_io.specs.declared.sinks.SinkEnd.{SinkEnd}
@@ -42,11 +42,13 @@ pub record IsRefusal (run : SinkRun) : Type 0 where
   pub faults : run.now.faults ≡ run.before.faults
   pub refusals : Rose run.before.refusals run.now.refusals
 
--- Each end is counted as what it is.
+-- A call that did not do its work is counted as what it is.
+abbrev pub IsCounted : SinkRun → SinkEnd → Type 0
+IsCounted run Failed = IsFault run
+IsCounted run NoMemory = IsRefusal run
+
 abbrev pub HasCause : {T : Type 0} → SinkRun → Result T SinkEnd → Type 0
-HasCause run (Ok _) = IsQuiet run
-HasCause run (Err Failed) = IsFault run
-HasCause run (Err NoMemory) = IsRefusal run
+HasCause run result = MatchResult result (λ _. IsQuiet run) (IsCounted run)
 
 -- One `give`.
 pub record Gives (run : SinkRun) (piece : List ℕ) (result : Result ℕ SinkEnd) : Type 0 where

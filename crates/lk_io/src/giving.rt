@@ -10,6 +10,21 @@ pub enum GiveEnd {
     NoMemory { out: usize },
 }
 
+/// The end alone, without how much was given.
+impl From<GiveEnd> for SinkEnd {
+    ghost use Rattle.std.specs.Prelude.{◌≡◌};
+    ghost use Rattle.lk_io.specs.GiveAll.{end_alone};
+
+    ghost from_gives = { λ end e. e ≡ end_alone end };
+
+    fn from(end: GiveEnd) -> SinkEnd {
+        match end {
+            GiveEnd::Failed { .. } => SinkEnd::Failed,
+            GiveEnd::NoMemory { .. } => SinkEnd::NoMemory,
+        }
+    }
+}
+
 /// Gives the whole piece, in as many calls as the sink needs. The first call that fails or finds no memory ends it.
 pub fn give_all<S: Sink>(sink: &mut S, piece: &[u8]) -> Result<(), GiveEnd>
     ensures { GivesAll (run (S.state sink.old) (S.state sink.new)) piece.now result }
