@@ -1,3 +1,4 @@
 pub mod ClaimTree
 pub mod ExprTree
+pub mod LegTree
 pub mod ProgramTree

@@ -1,0 +1,36 @@
+-- The output of a report, and that a text has one output.
+use Rattle.std.proofs.Common.{◌≡◌, ℕ, List, get_or, sym, ap, ◌∙◌, inl, inr}
+use Rattle.lk_ast.specs.declared.tree.File.{File}
+use Rattle.lk_ast.specs.ProgramTree.{ProgramTree, program_tree}
+use Rattle.slang_parser.specs.Grammar.{Reads}
+use Rattle.type_check.specs.Typing.{program_of}
+use Rattle.fresh_check.specs.Texts.{verdicts_text}
+use Rattle.fresh_check.specs.Output.{HasProgram, IsOutput, VerifiedIsSafe, verdict_lines, verdicts_code}
+use Rattle.fresh_check.specs.Reports.{IsReport, report_bytes, report_code}
+use Rattle.fresh_check.specs.declared.report.Report.{Report}
+use Rattle.fresh_check.specs.declared.report.Report.TheVariants as reports
+use Rattle.fresh_check.proofs.VerdictLaws.{safe_from_verified}
+
+pub output_of : (bytes text : List ℕ) (code : ℕ) (report : Report) → IsReport bytes report → text ≡ report_bytes 1 report → code ≡ report_code report → IsOutput bytes text code
+output_of bytes text code (reports.Faults faults) (none, one) written counted =
+    inr (none, (written ∙ ap (λ fs. report_bytes 1 (reports.Faults fs)) one, counted))
+output_of bytes text code (reports.Verdicts typed lines) (has, all) written counted =
+    inl (program_tree typed, has, (written ∙ ap (verdicts_text 1 typed.nodes) all, counted ∙ ap verdicts_code all))
+
+pub verified_is_safe : (bytes : List ℕ) → VerifiedIsSafe bytes
+verified_is_safe bytes program has k d within verified = safe_from_verified (get_or program.methods k d) verified
+
+-- a text that has one tree at most has one program at most
+one_program : (bytes : List ℕ) → ((a b : File) → Reads bytes a → Reads bytes b → a ≡ b) → (p q : ProgramTree) → HasProgram bytes p → HasProgram bytes q → p ≡ q
+one_program bytes one p q (a, reads, typed, is) (b, reads_b, typed_b, is_b) = is ∙ ap (λ (file : File). program_of file.items) (one a b reads reads_b) ∙ sym is_b
+
+pub one_output : (bytes : List ℕ) → ((a b : File) → Reads bytes a → Reads bytes b → a ≡ b) → (text other : List ℕ) (code more : ℕ) → IsOutput bytes text code → IsOutput bytes other more → (text ≡ other) × (code ≡ more)
+one_output bytes one text other code more (inl (p, has, (written, counted))) (inl (q, has_q, (written_q, counted_q))) =
+    let same = one_program bytes one p q has has_q in (
+      written ∙ ap (λ (r : ProgramTree). verdicts_text 1 r.nodes (verdict_lines r.methods)) same ∙ sym written_q,
+      counted ∙ ap (λ (r : ProgramTree). verdicts_code (verdict_lines r.methods)) same ∙ sym counted_q,
+    )
+one_output bytes one text other code more (inl (p, has, is)) (inr (none, refusal)) = absurd (none p has)
+one_output bytes one text other code more (inr (none, refusal)) (inl (q, has, is)) = absurd (none q has)
+one_output bytes one text other code more (inr (none, (written, counted))) (inr (none_q, (written_q, counted_q))) =
+    (written ∙ sym written_q, counted ∙ sym counted_q)

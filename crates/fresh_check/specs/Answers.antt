@@ -1,0 +1,23 @@
+-- The answer of a leg: the first of its checks that is not closed.
+use Rattle.std.specs.Prelude.{ℕ, List, Option, Some, None, slice_get, unwrap_or}
+use Rattle.std.specs.List.{filter_map}
+use Rattle.lk_ast.specs.declared.check.Kind.{Kind}
+use Rattle.lk_ast.specs.declared.check.Answer.{Answer}
+use Rattle.lk_ast.specs.declared.check.Answer.TheVariants as answers
+use Rattle.lk_ast.specs.LegTree.{ItemTree}
+use Rattle.fresh_check.specs.Sequents.{Obligation, obligations}
+use Rattle.fresh_check.specs.Closing.{Closing, closed, refused, closing}
+
+abbrev pub unproved_by : ℕ → Kind → Closing → Option Answer
+unproved_by item kind closed = None
+unproved_by item kind (refused reason) = Some (answers.Unproved item kind reason)
+
+abbrev pub unproved : Obligation → Option Answer
+unproved obligation = unproved_by obligation.item obligation.kind (closing obligation.sequent)
+
+-- the first of the obligations that is not closed, and Proved where there is none
+abbrev pub first_unproved : List Obligation → Answer
+first_unproved all = unwrap_or (slice_get (filter_map unproved all) 0) answers.Proved
+
+abbrev pub answer : List ItemTree → Answer
+answer items = first_unproved (obligations items)
