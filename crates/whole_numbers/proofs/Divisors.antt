@@ -44,10 +44,11 @@ gcd-assoc a b c =
     let ab = IsGcd-gcd a b in
     let bc = IsGcd-gcd b c in
     let l = IsGcd-gcd (gcd a b) c in
-    let all : IsGcd a (gcd b c) (gcd (gcd a b) c) =
-        (dvd_trans _ l.0 ab.0,
-         bc.2 _ (dvd_trans _ l.0 ab.1) l.1,
-         λ d p q. l.2 d (ab.2 d p (dvd_trans d q bc.0)) (dvd_trans d q bc.1)) in
+    let all : IsGcd a (gcd b c) (gcd (gcd a b) c) = (
+      dvd_trans _ l.0 ab.0,
+      bc.2 _ (dvd_trans _ l.0 ab.1) l.1,
+      λ d p q. l.2 d (ab.2 d p (dvd_trans d q bc.0)) (dvd_trans d q bc.1),
+    ) in
     same_from_IsGcd a (gcd b c) _ _ all (IsGcd-gcd a (gcd b c))
 
 pub zero-gcd : (a : ℕ) → gcd 0 a ≡ a
