@@ -6,6 +6,7 @@ use Rattle.logika_cli.specs.Reading.{HasNoFault}
 use Rattle.logika_cli.specs.Journal.{GetsLine, write_fault_line}
 use Rattle.logika_cli.specs.Status.{Due, End, as_due, read_fault, write_fault, no_memory, code_of, line_of, EndsBy, HasStatus}
 use Rattle.logika_cli.specs.Check.{IsDueOfCheck, checked, too_large, check_command}
+use Rattle.fresh_check.proofs.OutputLaws.{verified_is_safe}
 use Rattle.logika_cli.specs.Rows.{Rows}
 use Rattle.logika_cli.specs.declared.limits.Limits.{Limits}
 use Rattle.logika_cli.proofs.LimitLaws.{past_or_within}
@@ -20,7 +21,7 @@ module _ (limits : Limits) (source : SourceRun) (out journal : SinkRun) (code : 
   rows-due {input} told (checked {text} {code = c} within output small) read given quiet code_is line = record {
     answered = λ at. record {
       text = text;
-      output = record { input = input; told = told; within = within; output = rw (sym code_is) at output };
+      output = record { input = input; told = told; within = within; output = rw (sym code_is) at output; safe = verified_is_safe input };
       given = record { adds = given; quiet = quiet };
       silent = line;
     };
@@ -53,7 +54,7 @@ module _ (limits : Limits) (source : SourceRun) (out journal : SinkRun) (code : 
     write_fault = λ at. record {
       text = text;
       code = c;
-      output = record { input = input; told = told; within = within; output = output };
+      output = record { input = input; told = told; within = within; output = output; safe = verified_is_safe input };
       fault = fault.faults;
       given = given;
       line = line;
