@@ -1,9 +1,13 @@
 -- The output of a report, and that a text has one output.
-use Rattle.std.proofs.Common.{◌≡◌, ℕ, List, get_or, sym, ap, ◌∙◌, inl, inr}
+use Rattle.std.specs.Prelude.{IfOk}
+use Rattle.std.specs.declared.alloc.AllocError.{AllocError}
+use Rattle.type_check.specs.Fault.{form_left_out}
+use Rattle.lk_ast.specs.declared.tree.Fault.{Fault}
+use Rattle.std.proofs.Common.{◌≡◌, ℕ, List, [], ◌∷◌, Result, Ok, Err, subst, get_or, sym, ap, ◌∙◌, inl, inr}
 use Rattle.lk_ast.specs.declared.tree.File.{File}
 use Rattle.lk_ast.specs.ProgramTree.{ProgramTree, program_tree}
 use Rattle.slang_parser.specs.Grammar.{Reads}
-use Rattle.type_check.specs.Typing.{program_of}
+use Rattle.type_check.specs.Typing.{program_of, IsWellTyped}
 use Rattle.fresh_check.specs.Texts.{verdicts_text}
 use Rattle.fresh_check.specs.Output.{HasProgram, IsOutput, VerifiedIsSafe, verdict_lines, verdicts_code}
 use Rattle.fresh_check.specs.Reports.{IsReport, report_bytes, report_code}
@@ -34,3 +38,17 @@ one_output bytes one text other code more (inl (p, has, is)) (inr (none, refusal
 one_output bytes one text other code more (inr (none, refusal)) (inl (q, has, is)) = absurd (none q has)
 one_output bytes one text other code more (inr (none, (written, counted))) (inr (none_q, (written_q, counted_q))) =
     (written ∙ sym written_q, counted ∙ sym counted_q)
+
+-- the report of a text that is no tree of the grammar
+pub refused_unread : (bytes : List ℕ) (fault : Fault) → ((file : File) → Reads bytes file → ⊥) → fault ≡ form_left_out → (result : Result Report AllocError)
+    → IfOk result (λ report. report ≡ reports.Faults (fault ∷ [])) → IfOk result (IsReport bytes)
+refused_unread bytes fault none is (Ok report) made =
+    subst (IsReport bytes) (sym made) ((λ program has. none has.0 has.1), ap (λ f. f ∷ []) is)
+refused_unread bytes fault none is (Err error) made = tt
+
+-- the report of a text that breaks a rule of typing
+pub refused_untyped : (bytes : List ℕ) (fault : Fault) (read : File) → ((file : File) → Reads bytes file → read ≡ file) → (IsWellTyped read → ⊥) → fault ≡ form_left_out
+    → (result : Result Report AllocError) → IfOk result (λ report. report ≡ reports.Faults (fault ∷ [])) → IfOk result (IsReport bytes)
+refused_untyped bytes fault read one none is (Ok report) made =
+    subst (IsReport bytes) (sym made) ((λ program has. none (subst IsWellTyped (sym (one has.0 has.1)) has.2)), ap (λ f. f ∷ []) is)
+refused_untyped bytes fault read one none is (Err error) made = tt

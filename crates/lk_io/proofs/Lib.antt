@@ -1,0 +1,4 @@
+pub mod SourceLaws
+pub mod SinkLaws
+pub mod GiveAllLaws
+pub mod MemoryLaws

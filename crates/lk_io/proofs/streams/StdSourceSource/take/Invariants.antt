@@ -1,0 +1,7 @@
+use Rattle.std.proofs.Common.{◌≡◌}
+use Rattle.std.specs.Io.KnownBytes.{Keeps}
+use Rattle.lk_io.proofs.streams.StdSourceSource.take.Given as goal
+
+abbrev pub invariant-tries : goal.invariant-tries
+invariant-tries g l =
+    (l.self-inside.faults ≡ l.initial.self-inside.faults) × Keeps (g.R.Read.remaining l.initial.self-inside.reader) (g.R.Read.remaining l.self-inside.reader)

@@ -1,0 +1,5 @@
+pub mod Run
+pub mod Source
+pub mod Sink
+pub mod GiveAll
+pub mod Memory

@@ -1,0 +1,32 @@
+//! The program `logika`: standard input is the source, standard output the output and standard error the journal, and
+//! the exit code is the status.
+#![tactic(auto)]
+
+use lk_io::{StdSink, StdSource};
+use logika_cli::{end_without_memory, logika_main};
+use std::io::ErrorKind;
+use std::process::ExitCode;
+use std::rt::Env;
+use std::{env, io};
+
+fn main(rt: HostRuntime) -> ExitCode {
+    let alloc = rt.alloc();
+    let mut source = StdSource::new(rt.stdin());
+    let mut out = StdSink::new(rt.stdout());
+    let mut journal = StdSink::new(rt.stderr());
+    let status = match words(&rt) {
+        Ok(words) => logika_main(&rt, alloc, &words, &mut source, &mut out, &mut journal),
+        // A word that is no text is among no words that are read.
+        Err(e) if e.kind() == ErrorKind::InvalidData => {
+            logika_main(&rt, alloc, &[], &mut source, &mut out, &mut journal)
+        }
+        Err(_) => end_without_memory(&mut journal),
+    };
+    ExitCode::from(status.code)
+}
+
+/// The words of the command line, without the program's name.
+fn words<R: Env + AllocGlobal>(rt: &R) -> io::Result<Vec<String>> {
+    let words = env::args(rt)?.skip(1).collect(rt.alloc())?;
+    Ok(words)
+}

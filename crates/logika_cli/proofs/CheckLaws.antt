@@ -1,0 +1,69 @@
+-- The ends of the command `check`.
+use Rattle.std.proofs.Common.{◌≤◌, ℕ, List, [], ◌++◌, refl, inl, inr, append-nil}
+use Rattle.lk_io.specs.Run.{run}
+use Rattle.lk_io.specs.Source.{SourceRun}
+use Rattle.lk_io.specs.Sink.{SinkState, SinkRun}
+use Rattle.lk_io.specs.GiveAll.{GivesWhole}
+use Rattle.lk_io.specs.declared.sinks.SinkEnd.{SinkEnd}
+use Rattle.lk_io.specs.declared.sinks.SinkEnd.TheVariants.{Failed, NoMemory}
+use Rattle.lk_io.proofs.SinkLaws.{Appends-none, IsQuiet-none, GivesPart-whole}
+use Rattle.fresh_check.specs.Output.{IsOutput}
+use Rattle.logika_cli.specs.Reading.{ReadsWhole, ReadEnds}
+use Rattle.logika_cli.specs.Writing.{WritesPart}
+use Rattle.logika_cli.specs.Status.{IsDueOf, EndsBy, answer}
+use Rattle.logika_cli.specs.Check.{checked, too_large, check_command}
+use Rattle.logika_cli.specs.Stop.{end_of, stop_of_read, stop_of_write, Answers}
+use Rattle.logika_cli.specs.declared.limits.Limits.{Limits}
+use Rattle.logika_cli.specs.declared.reading.ReadEnd.{ReadEnd}
+use Rattle.logika_cli.specs.declared.reading.ReadEnd.TheVariants.{ReadFault, TooLarge, NoMemory as no_memory}
+
+-- The source was not read to its end, and nothing was given.
+pub EndsBy-read : (limits : Limits) (source : SourceRun) (out : SinkState) (end : ReadEnd)
+    → ReadEnds limits source end → EndsBy (check_command limits) source (run out out) (end_of (stop_of_read end))
+EndsBy-read limits source out ReadFault read = record {
+  front = read.front;
+  taken = read.taken;
+  text = [];
+  earlier = refl;
+  fault = read.fault;
+  given = Appends-none out;
+  quiet = IsQuiet-none out;
+}
+EndsBy-read limits source out (TooLarge line) read = record {
+  is_due = record { input = read.text; told = read.told; is_due = too_large read.passes };
+  read = read.no_fault;
+  given = Appends-none out;
+  quiet = IsQuiet-none out;
+}
+EndsBy-read limits source out no_memory read = record {
+  read = read.no_fault;
+  written = refl;
+  given = inl (record { front = read.front; taken = read.taken; text = []; earlier = refl; given = GivesPart-whole (Appends-none out) });
+}
+
+module _ (limits : Limits) (source : SourceRun) (input text : List ℕ) (code : ℕ) (read : ReadsWhole limits source input) (output : IsOutput input text code) (small : code ≤ 2) where
+  is_due : IsDueOf (check_command limits) source (answer text code)
+  is_due = record { input = input; told = read.told; is_due = checked read.within output small }
+
+  -- The output was not written whole.
+  pub EndsBy-write : (out : SinkRun) (end : SinkEnd) → WritesPart out (text ++ []) end → EndsBy (check_command limits) source out (end_of (stop_of_write end))
+  EndsBy-write out Failed wrote = record {
+    due = answer text code;
+    is_due = is_due;
+    writes = inl refl;
+    read = read.no_fault;
+    given = rw (append-nil text) at wrote.given;
+    fault = wrote.cause;
+  }
+  EndsBy-write out NoMemory wrote = record {
+    read = read.no_fault;
+    written = wrote.cause.faults;
+    given = inr (record { due = answer text code; is_due = is_due; given = rw (append-nil text) at wrote.given });
+  }
+
+  -- The output was written.
+  pub Answers-whole : (out : SinkRun) → GivesWhole out (text ++ []) → Answers (check_command limits) source out code
+  Answers-whole out wrote = record {
+    text = text;
+    ends = record { is_due = is_due; read = read.no_fault; given = rw (append-nil text) at wrote.adds; quiet = wrote.quiet };
+  }

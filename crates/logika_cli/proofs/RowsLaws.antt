@@ -1,0 +1,99 @@
+-- The rows of `check`.
+use Rattle.std.proofs.Common.{◌≡◌, ◌≢◌, ◌⊎◌, ℕ, List, [], Option, Some, None, inl, inr, refl, sym, arith}
+use Rattle.lk_io.specs.Source.{SourceRun, Tells}
+use Rattle.lk_io.specs.Sink.{SinkRun, Appends, GivesPart, IsQuiet, IsFault}
+use Rattle.logika_cli.specs.Reading.{HasNoFault}
+use Rattle.logika_cli.specs.Journal.{GetsLine, write_fault_line}
+use Rattle.logika_cli.specs.Status.{Due, End, as_due, read_fault, write_fault, no_memory, code_of, line_of, EndsBy, HasStatus}
+use Rattle.logika_cli.specs.Check.{IsDueOfCheck, checked, too_large, check_command}
+use Rattle.fresh_check.proofs.OutputLaws.{verified_is_safe}
+use Rattle.logika_cli.specs.Rows.{Rows}
+use Rattle.logika_cli.specs.declared.limits.Limits.{Limits}
+use Rattle.logika_cli.proofs.LimitLaws.{past_or_within}
+
+-- A told input is the one that is told.
+told_is : {left : Option (List ℕ)} (input told : List ℕ) → left ≡ Some told → Tells left input → told ≡ input
+told_is {left} input told e tells = rw e at tells
+
+module _ (limits : Limits) (source : SourceRun) (out journal : SinkRun) (code : ℕ) where
+  rows-due : {input : List ℕ} {due : Due} → Tells source.before.left input → IsDueOfCheck limits input due → HasNoFault source → Appends out due.text → IsQuiet out
+      → code ≡ due.code → GetsLine journal due.line → Rows limits source out journal code
+  rows-due {input} told (checked {text} {code = c} within output small) read given quiet code_is line = record {
+    answered = λ at. record {
+      text = text;
+      output = record { input = input; told = told; within = within; output = rw (sym code_is) at output; safe = verified_is_safe input };
+      given = record { adds = given; quiet = quiet };
+      silent = line;
+    };
+    read_fault = λ at. absurd (omega arith);
+    write_fault = λ at. absurd (omega arith);
+    no_memory = λ at. absurd (omega arith);
+    too_large = λ at. absurd (omega arith);
+    read_faults = λ fault. absurd (fault read);
+    write_faults = λ fault. absurd (fault quiet.faults);
+    within = λ told_input is w read' written. inl (omega arith);
+    past = λ told_input line_no is passes read'. absurd (past_or_within passes (rw (told_is input told_input is told) within));
+  }
+  rows-due {input} told (too_large {line = line_no} passes) read given quiet code_is line = record {
+    answered = λ at. absurd (omega arith);
+    read_fault = λ at. absurd (omega arith);
+    write_fault = λ at. absurd (omega arith);
+    no_memory = λ at. absurd (omega arith);
+    too_large = λ at. record { input = input; told = told; line_no = line_no; passes = passes; given = record { adds = given; quiet = quiet }; line = line };
+    read_faults = λ fault. absurd (fault read);
+    write_faults = λ fault. absurd (fault quiet.faults);
+    within = λ told_input is w read' written. absurd (past_or_within passes (rw (sym (told_is input told_input is told)) w));
+    past = λ told_input line' is passes' read'. inl code_is;
+  }
+
+  rows-write : {input : List ℕ} {due : Due} → Tells source.before.left input → IsDueOfCheck limits input due → (due.line ≡ None) ⊎ (due.text ≢ []) → HasNoFault source
+      → GivesPart out due.text → IsFault out → code ≡ 6 → GetsLine journal (Some write_fault_line) → Rows limits source out journal code
+  rows-write {input} told (checked {text} {code = c} within output small) writes read given fault code_is line = record {
+    answered = λ at. absurd (omega arith);
+    read_fault = λ at. absurd (omega arith);
+    write_fault = λ at. record {
+      text = text;
+      code = c;
+      output = record { input = input; told = told; within = within; output = output; safe = verified_is_safe input };
+      fault = fault.faults;
+      given = given;
+      line = line;
+    };
+    no_memory = λ at. absurd (omega arith);
+    too_large = λ at. absurd (omega arith);
+    read_faults = λ f. absurd (f read);
+    write_faults = λ f. code_is;
+    within = λ told_input is w read' written. absurd (written fault.faults);
+    past = λ told_input line_no is passes read'. absurd (past_or_within passes (rw (told_is input told_input is told) within));
+  }
+  rows-write {input} told (too_large {line = line_no} passes) writes read given fault code_is line = absurd (elim writes [ inl e ↦ cc | inr more ↦ more refl ])
+
+  rows : (end : End) → EndsBy (check_command limits) source out end → code ≡ code_of end → GetsLine journal (line_of end) → Rows limits source out journal code
+  rows (as_due due) ends code_is line = rows-due ends.is_due.told ends.is_due.is_due ends.read ends.given ends.quiet code_is line
+  rows read_fault ends code_is line = record {
+    answered = λ at. absurd (omega arith);
+    read_fault = λ at. record { fault = ends.fault; given = record { adds = rw ends.earlier at ends.given; quiet = ends.quiet }; line = line };
+    write_fault = λ at. absurd (omega arith);
+    no_memory = λ at. absurd (omega arith);
+    too_large = λ at. absurd (omega arith);
+    read_faults = λ fault. code_is;
+    write_faults = λ fault. absurd (fault ends.quiet.faults);
+    within = λ told_input is w read written. absurd (read ends.fault);
+    past = λ told_input line_no is passes read. absurd (read ends.fault);
+  }
+  rows write_fault ends code_is line = rows-write ends.is_due.told ends.is_due.is_due ends.writes ends.read ends.given ends.fault code_is line
+  rows no_memory ends code_is line = record {
+    answered = λ at. absurd (omega arith);
+    read_fault = λ at. absurd (omega arith);
+    write_fault = λ at. absurd (omega arith);
+    no_memory = λ at. line;
+    too_large = λ at. absurd (omega arith);
+    read_faults = λ fault. absurd (fault ends.read);
+    write_faults = λ fault. absurd (fault ends.written);
+    within = λ told_input is w read written. inr code_is;
+    past = λ told_input line_no is passes read. inr code_is;
+  }
+
+pub Rows-status : {limits : Limits} {source : SourceRun} {out journal : SinkRun} {code : ℕ}
+    → HasStatus (check_command limits) source out journal code → Rows limits source out journal code
+Rows-status {limits} {source} {out} {journal} {code} status = rows limits source out journal code status.end status.ends status.code_is status.line

@@ -1,0 +1,10 @@
+pub mod Limits
+pub mod Gauge
+pub mod Reading
+pub mod Writing
+pub mod Journal
+pub mod Status
+pub mod Check
+pub mod Words
+pub mod Rows
+pub mod Stop

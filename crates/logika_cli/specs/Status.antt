@@ -1,0 +1,113 @@
+-- What a command is due to do of its input, the ways in which it ends, and the status of each.
+use Rattle.std.specs.Prelude.{◌≡◌, ◌≢◌, ℕ, List, [], ◌⊎◌, Option, Some, None}
+use Rattle.lk_io.specs.Run.{Rose}
+use Rattle.lk_io.specs.Source.{SourceRun, Tells, Consumes}
+use Rattle.lk_io.specs.Sink.{SinkRun, Appends, GivesPart, IsQuiet, IsFault}
+use Rattle.logika_cli.specs.Reading.{HasNoFault}
+use Rattle.logika_cli.specs.Journal.{GetsLine, read_fault_line, write_fault_line, no_memory_line}
+
+-- What is due: a text on the output, a status, and for some statuses a last line on the journal.
+pub record Due : Type 0 where
+  pub text : List ℕ
+  pub code : ℕ
+  pub line : Option (List ℕ)
+
+-- An answer: its text, and a status that has no line.
+abbrev pub answer : List ℕ → ℕ → Due
+answer text code = record { text = text; code = code; line = None }
+
+-- A refusal: a status and its line, and nothing on the output.
+abbrev pub refusal : ℕ → List ℕ → Due
+refusal code line = record { text = []; code = code; line = Some line }
+
+-- A command, as a relation between its input and what is due of it.
+pub record Command : Type 1 where
+  -- what is due of this whole input
+  pub due : List ℕ → Due → Type 0
+  -- the text due of the commands that this front of the input holds whole
+  pub earlier : List ℕ → List ℕ → Type 0
+
+-- A command ends as is due of its input, or before that by a fault of the source, by a fault of the output, or for want
+-- of memory.
+pub data End : Type 0 where
+  as_due : Due → End
+  read_fault : End
+  write_fault : End
+  no_memory : End
+
+abbrev pub code_of : End → ℕ
+code_of (as_due due) = due.code
+code_of read_fault = 5
+code_of write_fault = 6
+code_of no_memory = 7
+
+abbrev pub line_of : End → Option (List ℕ)
+line_of (as_due due) = due.line
+line_of read_fault = Some read_fault_line
+line_of write_fault = Some write_fault_line
+line_of no_memory = Some no_memory_line
+
+-- The input is the told one, where the source tells it, and this is due of it.
+pub record IsDueOf (command : Command) (source : SourceRun) (due : Due) : Type 0 where
+  pub input : List ℕ
+  pub told : Tells source.before.left input
+  pub is_due : command.due input due
+
+-- The whole text was given, and nothing failed or found no memory.
+pub record EndsAsDue (command : Command) (source : SourceRun) (out : SinkRun) (due : Due) : Type 0 where
+  pub is_due : IsDueOf command source due
+  pub read : HasNoFault source
+  pub given : Appends out due.text
+  pub quiet : IsQuiet out
+
+-- The source failed. The output of the commands read before is whole.
+pub record EndsByReadFault (command : Command) (source : SourceRun) (out : SinkRun) : Type 0 where
+  pub front : List ℕ
+  pub taken : Consumes source front
+  pub text : List ℕ
+  pub earlier : command.earlier front text
+  pub fault : Rose source.before.faults source.now.faults
+  pub given : Appends out text
+  pub quiet : IsQuiet out
+
+-- The output failed while the text of an answer was due to it, and a front of that text was given.
+pub record EndsByWriteFault (command : Command) (source : SourceRun) (out : SinkRun) : Type 0 where
+  pub due : Due
+  pub is_due : IsDueOf command source due
+  pub writes : (due.line ≡ None) ⊎ (due.text ≢ [])
+  pub read : HasNoFault source
+  pub given : GivesPart out due.text
+  pub fault : IsFault out
+
+-- A front was given of the text due of the commands read so far.
+pub record GivesEarlier (command : Command) (source : SourceRun) (out : SinkRun) : Type 0 where
+  pub front : List ℕ
+  pub taken : Consumes source front
+  pub text : List ℕ
+  pub earlier : command.earlier front text
+  pub given : GivesPart out text
+
+-- A front was given of the text due of the whole input.
+pub record GivesDue (command : Command) (source : SourceRun) (out : SinkRun) : Type 0 where
+  pub due : Due
+  pub is_due : IsDueOf command source due
+  pub given : GivesPart out due.text
+
+-- Memory ran out. Neither the source nor the output failed, and a front of the right text was given.
+pub record EndsByNoMemory (command : Command) (source : SourceRun) (out : SinkRun) : Type 0 where
+  pub read : HasNoFault source
+  pub written : out.now.faults ≡ out.before.faults
+  pub given : GivesEarlier command source out ⊎ GivesDue command source out
+
+abbrev pub EndsBy : Command → SourceRun → SinkRun → End → Type 0
+EndsBy command source out (as_due due) = EndsAsDue command source out due
+EndsBy command source out read_fault = EndsByReadFault command source out
+EndsBy command source out write_fault = EndsByWriteFault command source out
+EndsBy command source out no_memory = EndsByNoMemory command source out
+
+-- The status of a command is that of its end, whose line is the last thing on the journal.
+pub record HasStatus (command : Command) (source : SourceRun) (out journal : SinkRun) (code : ℕ) : Type 0 where
+  pub end : End
+  pub ends : EndsBy command source out end
+  pub code_is : code ≡ code_of end
+  pub line : GetsLine journal (line_of end)

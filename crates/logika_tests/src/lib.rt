@@ -1,0 +1,5 @@
+//! Texts and what the program prints for them.
+#![tactic(auto)]
+
+#[cfg(test)]
+mod verdicts;

@@ -1,0 +1,89 @@
+// Whole texts through the command, over objects in memory.
+use fresh_check::check_text;
+use lk_io::{MemSource, SureSink};
+use logika_cli::check_once;
+use std::str;
+use std::test::Fail;
+
+const REFUSED: &str = "revision 1\n-:1:1 E14 form left out\n";
+
+// Texts, each with what is printed for it and its status.
+const TEXTS: [(&str, &str, u8); 14] = [
+    ("", "revision 1\nmethods 0 verified 0\n", 0),
+    (
+        "def keep(p: B, q: B): Unit = {\n  Contract(\n    Requires(p & q),\n    Ensures(q)\n  )\n}\n",
+        "revision 1\nkeep verified\nmethods 1 verified 1\n",
+        0,
+    ),
+    (
+        "def keep(p: B, q: B): Unit = {\n  Contract(\n    Requires(p & q),\n    Ensures(!q)\n  )\n}\n",
+        "revision 1\nkeep unproved -:4:13 ensures open\nmethods 1 verified 0\n",
+        1,
+    ),
+    (
+        "def inc(x: Z): Z = {\n  Contract(\n    Requires(x >= 0),\n    Ensures(Res == x + 1)\n  )\n  return x + 1\n}\n",
+        REFUSED,
+        2,
+    ),
+    (
+        "def f(): Unit = {\n}\n",
+        "revision 1\nf verified\nmethods 1 verified 1\n",
+        0,
+    ),
+    (
+        "def f(p: B): Unit = {\n  Contract(Requires(F), Ensures(p, !p, F))\n}\n",
+        "revision 1\nf verified\nmethods 1 verified 1\n",
+        0,
+    ),
+    (
+        "def f(p: B): Unit = {\n  Contract(Requires(p), Ensures(p, T & p,\n    !!p & !p))\n}\n",
+        "revision 1\nf unproved -:3:5 ensures open\nmethods 1 verified 0\n",
+        1,
+    ),
+    (
+        // A claim that was checked is a fact for the next ones.
+        "def f(p: B): Unit = {\n  Contract(Ensures(p, p))\n}\n",
+        "revision 1\nf unproved -:2:20 ensures open\nmethods 1 verified 0\n",
+        1,
+    ),
+    (
+        "def f(p: B): Unit = {\n  Contract(Requires(p, !p), Ensures(F))\n}\n",
+        "revision 1\nf verified\nmethods 1 verified 1\n",
+        0,
+    ),
+    ("def f(p: B, p: B): Unit = {\n}\n", REFUSED, 2),
+    ("def f(f: B): Unit = {\n}\n", REFUSED, 2),
+    (
+        "def f(p: B): Unit = {\n  Contract(Ensures(f))\n}\n",
+        REFUSED,
+        2,
+    ),
+    ("def f(p: B): B = {\n}\n", REFUSED, 2),
+    ("def f(): Unit = {\n}\ndef g(): Unit = {\n}\n", REFUSED, 2),
+];
+
+#[test]
+fn texts_have_their_verdicts(rt: HostRuntime) -> Result<(), Fail> {
+    for &(text, output, code) in &TEXTS {
+        let mut source = MemSource::new(
+            Vec::from_slice(rt.alloc(), text.as_bytes())?,
+            7,
+            Vec::new(rt.alloc()),
+        );
+        let mut out = SureSink::new(rt.alloc());
+        let mut journal = SureSink::new(rt.alloc());
+        let status = check_once(rt.alloc(), &mut source, &mut out, &mut journal);
+        assert_eq!(rt; str::from_utf8(out.bytes())?, output, "{text}");
+        assert_eq!(rt; status.code, code, "{text}");
+        assert!(rt; journal.bytes().is_empty());
+    }
+    Ok(())
+}
+
+#[test]
+fn one_text_is_checked(rt: HostRuntime) -> Result<(), Fail> {
+    let checked = check_text(rt.alloc(), b"\xff")?;
+    assert_eq!(rt; str::from_utf8(&checked.text)?, REFUSED);
+    assert_eq!(rt; checked.code, 2);
+    Ok(())
+}

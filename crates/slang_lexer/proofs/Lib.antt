@@ -1,0 +1,6 @@
+pub mod Places
+pub mod Laws
+pub mod Names
+pub mod Rows
+pub mod Fronts
+pub mod Tokens

@@ -1,0 +1,5 @@
+pub mod Spelling
+pub mod Comment
+pub mod Next
+pub mod Scan
+pub mod Statement

@@ -1,0 +1,303 @@
+-- What the grammar accounts for, the machine reads.
+use Rattle.std.proofs.Common.{◌≡◌, ℕ, suc, ◌<◌, ◌≤◌, List, [], ◌∷◌, ◌++◌, length, map, Option, Some, None, refl, sym, ap, ◌∙◌, append_assoc, append-nil, arith, cond}
+use Rattle.std.specs.List.{AllByRecursion}
+use Rattle.std.specs.Prelude.{option_and_then, option_to_list}
+use Rattle.std.proofs.lemmas.Bool.{le-leb}
+use Rattle.lk_ast.specs.declared.tree.Place.{Place}
+use Rattle.lk_ast.specs.declared.tree.File.{File}
+use Rattle.lk_ast.specs.declared.tree.Name.{Name}
+use Rattle.lk_ast.specs.declared.tree.Param.{Param}
+use Rattle.lk_ast.specs.declared.tree.Decl.{Decl}
+use Rattle.lk_ast.specs.declared.tree.Decl.TheVariants.{Method}
+use Rattle.lk_ast.specs.declared.tree.TypeName.{TypeName}
+use Rattle.lk_ast.specs.declared.tree.TypeName.TheVariants.{B, Unit as UnitType}
+use Rattle.lk_ast.specs.declared.tree.Expr.{Expr}
+use Rattle.lk_ast.specs.declared.tree.Expr.TheVariants as e
+use Rattle.slang_lexer.specs.declared.token.TokenKind.{TokenKind}
+use Rattle.slang_lexer.specs.declared.token.TokenKind.TheVariants as kind
+use Rattle.slang_tokens.specs.Tok.{Tok, sign}
+use Rattle.slang_parser.specs.declared.operator.Operator.{Operator}
+use Rattle.slang_parser.specs.declared.operator.Operator.TheVariants.{Conjunction}
+use Rattle.slang_parser.specs.declared.contract.ClauseWord.{ClauseWord}
+use Rattle.slang_parser.specs.declared.contract.ClauseWord.TheVariants.{Requiring, Ensuring}
+use Rattle.slang_parser.specs.Grammar.{operator_kind, operator_level, ExprText, truth, falsity, variable, negation, binary, expr_tokens, level, IsGrouped, expr_tree, binary_tree, name_token, Listed, members, separated, optional, listed, ParamText, param_tokens, IsParam, param_tree, type_token, ClauseText, clause_tokens, IsClause, claim_trees, word_order, word_kind, ContractText, contract_tokens, Ascends, IsContract, MethodText, method_tokens, IsMethod, IsOptional, with_clause, with_clauses, bare_method, with_contract, decl_tree, file_tokens, InGrammar}
+use Rattle.slang_parser.specs.Below.{Below}
+use Rattle.slang_parser.proofs.Reading.{operator_level-small, close-Below}
+use Rattle.slang_parser.specs.Machine.{Around, alone, negated, right_of, Grown, close, Claims, with_claim, State, want, have, claim_or_end, clause_end, run, with_claims, Draft, top, ended, params_due, param_or_end, param_colon, param_type, param_end, result_colon, result_type, equals, body, clause_or_end, claims_due, body_end}
+
+Below-more : (around : Around) (m n : ℕ) → m ≤ n → Below around m → Below around n
+Below-more alone m n h b = tt
+Below-more (negated place around) m n h b = omega arith
+Below-more (right_of left operator around) m n h b = omega arith
+
+-- the operand, read among what is open around it: the same as the whole expression for each operator that it holds together against
+record ReadAs (around : Around) (at : Claims) (text : ExprText) : Type 0 where
+  pub expr : Expr
+  pub left : Around
+  pub reads : (rest : List Tok) → run (want around at) (expr_tokens text ++ rest) ≡ run (have expr left at) rest
+  pub closes : (least : ℕ) → least ≤ level text → close least expr left ≡ close least (expr_tree text) around
+
+-- an operator closes what binds as tightly
+after_operator : (operator : Operator) (place : Place) (expr : Expr) (around : Around) (at : Claims) (grown : Grown) (rest : List Tok)
+    → close (operator_level operator) expr around ≡ grown
+    → run (have expr around at) (sign (operator_kind operator) place ∷ rest) ≡ run (want (right_of grown.expr operator grown.around) at) rest
+after_operator Conjunction place expr around at grown rest h = ap (λ (g : Grown). run (want (right_of g.expr Conjunction g.around) at) rest) h
+
+read_expr : (text : ExprText) (around : Around) (at : Claims) → IsGrouped text → Below around (level text) → ReadAs around at text
+read_expr (truth place) around at g b = record { expr = e.True place; left = around; reads = λ rest. refl; closes = λ least h. refl }
+read_expr (falsity place) around at g b = record { expr = e.False place; left = around; reads = λ rest. refl; closes = λ least h. refl }
+read_expr (variable n) around at g b = record {
+  expr = e.Name n;
+  left = around;
+  reads = λ rest. ap (λ b. option_and_then (λ state. run state rest) (cond b (Some (have (e.Name n) around at)) None)) g;
+  closes = λ least h. refl;
+}
+read_expr (negation place operand) around at g b =
+    let inner = read_expr operand (negated place around) at g.1 g.0 in
+    record { expr = inner.expr; left = inner.left; reads = inner.reads; closes = λ least h. inner.closes least (omega arith) }
+read_expr (binary left operator place right) around at g b =
+    let first = read_expr left around at g.2 (Below-more around (operator_level operator) (level left) g.0 b) in
+    let second = read_expr right (right_of (expr_tree left) operator around) at g.3 g.1 in
+    record {
+      expr = second.expr;
+      left = second.left;
+      reads = λ rest. ap (run (want around at)) (append_assoc (expr_tokens left) _ rest)
+          ∙ first.reads (sign (operator_kind operator) place ∷ expr_tokens right ++ rest)
+          ∙ after_operator operator place first.expr first.left at (record { expr = expr_tree left; around = around }) (expr_tokens right ++ rest)
+          (first.closes (operator_level operator) g.0 ∙ close-Below around (operator_level operator) (expr_tree left) (operator_level-small operator) b)
+          ∙ second.reads rest;
+      closes = λ least h. second.closes least (omega (arith, g.1))
+          ∙ ap (λ x. cond x (close least (binary_tree operator (expr_tree left) (expr_tree right)) around) (record { expr = expr_tree right; around = right_of (expr_tree left) operator around })) (le-leb least (operator_level operator) h);
+    }
+
+-- Lists.
+
+-- what is gathered from members, the first of them first
+abbrev gathered : {A M : Type 0} → (A → M → A) → A → List M → A
+gathered add a [] = a
+gathered add a (m ∷ ms) = gathered add (add a m) ms
+
+-- each member may come after those before it
+abbrev AllFrom : {A M : Type 0} → (A → M → A) → (A → M → Type 0) → A → List M → Type 0
+AllFrom add Fits a [] = Unit {0}
+AllFrom add Fits a (m ∷ ms) = Fits a m × AllFrom add Fits (add a m) ms
+
+-- A list is read where each member is read with the separator behind it, and where its end is read after a separator and
+-- after a last member.
+read_front : {A M : Type 0} (separator : TokenKind) (spell : M → List Tok) (due : A → State) (add : A → M → A) (Fits : A → M → Type 0) (end : List Tok) (over : A → Option File)
+    → ((a : A) (m : M) (place : Place) (rest : List Tok) → Fits a m → run (due a) (spell m ++ sign separator place ∷ rest) ≡ run (due (add a m)) rest)
+    → ((a : A) (m : M) → Fits a m → run (due a) (spell m ++ end) ≡ over (add a m))
+    → ((a : A) → run (due a) end ≡ over a)
+    → (front : List (M × Place)) (last : Option M) (a : A) → AllFrom add Fits a (map (λ m. m.0) front ++ option_to_list last)
+    → run (due a) ((separated separator spell front ++ optional spell last) ++ end) ≡ over (gathered add a (map (λ m. m.0) front ++ option_to_list last))
+read_front separator spell due add Fits end over one final none [] None a fits = none a
+read_front separator spell due add Fits end over one final none [] (Some m) a fits = final a m fits.0
+read_front separator spell due add Fits end over one final none (m ∷ ms) last a fits =
+    ap (λ tokens. run (due a) (tokens ++ end)) (append_assoc (spell m.0) _ (optional spell last))
+    ∙ ap (run (due a)) (append_assoc (spell m.0) _ end)
+    ∙ one a m.0 m.1 _ fits.0
+    ∙ read_front separator spell due add Fits end over one final none ms last (add a m.0) fits.1
+
+-- Claims.
+
+-- after a comma a claim begins as it does elsewhere
+starts_claim : (text : ExprText) (at : Claims) (rest : List Tok) → run (claim_or_end at) (expr_tokens text ++ rest) ≡ run (want alone at) (expr_tokens text ++ rest)
+starts_claim (truth place) at rest = refl
+starts_claim (falsity place) at rest = refl
+starts_claim (variable n) at rest = refl
+starts_claim (negation place operand) at rest = refl
+starts_claim (binary left operator place right) at rest =
+    let e = append_assoc (expr_tokens left) (sign (operator_kind operator) place ∷ expr_tokens right) rest in
+    ap (run (claim_or_end at)) e ∙ starts_claim left at _ ∙ sym (ap (run (want alone at)) e)
+
+claim_comma : (text : ExprText) (at : Claims) (place : Place) (rest : List Tok) → IsGrouped text
+    → run (want alone at) (expr_tokens text ++ sign kind.Comma place ∷ rest) ≡ run (claim_or_end (with_claim at (expr_tree text))) rest
+claim_comma text at place rest g =
+    let read = read_expr text alone at g tt in
+    read.reads (sign kind.Comma place ∷ rest) ∙ ap (λ (g : Grown). run (claim_or_end (with_claim at g.expr)) rest) (read.closes 0 (omega arith))
+
+claim_last : (text : ExprText) (at : Claims) (place : Place) (rest : List Tok) → IsGrouped text
+    → run (want alone at) (expr_tokens text ++ sign kind.RightParen place ∷ rest) ≡ run (clause_end (with_claims (with_claim at (expr_tree text))) (suc (word_order at.word))) rest
+claim_last text at place rest g =
+    let read = read_expr text alone at g tt in
+    read.reads (sign kind.RightParen place ∷ rest) ∙ ap (λ (g : Grown). run (clause_end (with_claims (with_claim at g.expr)) (suc (word_order at.word))) rest) (read.closes 0 (omega arith))
+
+abbrev add_claim : Claims → ExprText → Claims
+add_claim at text = with_claim at (expr_tree text)
+
+abbrev FitsClaim : Claims → ExprText → Type 0
+FitsClaim at text = IsGrouped text
+
+-- behind the last claim of a clause
+abbrev after_claims : List Tok → Claims → Option File
+after_claims rest at = run (clause_end (with_claims at) (suc (word_order at.word))) rest
+
+gathered_claims : (texts : List ExprText) (at : Claims) → gathered add_claim at texts ≡ record at { claims = at.claims ++ map expr_tree texts }
+gathered_claims [] at = ap (λ claims. record at { claims = claims }) (sym (append-nil at.claims))
+gathered_claims (text ∷ texts) at =
+    gathered_claims texts (add_claim at text) ∙ ap (λ claims. record at { claims = claims }) (append_assoc at.claims (expr_tree text ∷ []) (map expr_tree texts))
+
+all_claims : (texts : List ExprText) (at : Claims) → AllByRecursion IsGrouped texts → AllFrom add_claim FitsClaim at texts
+all_claims [] at h = tt
+all_claims (text ∷ texts) at h = (h.0, all_claims texts (add_claim at text) h.1)
+
+-- a list that is not empty begins with a claim
+starts_claims : (front : List (ExprText × Place)) (last : Option ExprText) (at : Claims) (rest : List Tok) → 0 < length (map (λ m. m.0) front ++ option_to_list last)
+    → run (claim_or_end at) ((separated kind.Comma expr_tokens front ++ optional expr_tokens last) ++ rest) ≡ run (want alone at) ((separated kind.Comma expr_tokens front ++ optional expr_tokens last) ++ rest)
+starts_claims [] None at rest h = absurd (omega arith)
+starts_claims [] (Some text) at rest h = starts_claim text at rest
+starts_claims (m ∷ ms) last at rest h =
+    let e = ap (λ tokens. tokens ++ rest) (append_assoc (expr_tokens m.0) _ (optional expr_tokens last)) ∙ append_assoc (expr_tokens m.0) _ rest in
+    ap (run (claim_or_end at)) e ∙ starts_claim m.0 at _ ∙ sym (ap (run (want alone at)) e)
+
+read_claims : (list : Listed ExprText) (at : Claims) (place : Place) (rest : List Tok) → 0 < length (members list) → AllByRecursion IsGrouped (members list)
+    → run (want alone at) (listed kind.Comma expr_tokens list ++ sign kind.RightParen place ∷ rest)
+    ≡ after_claims rest (record at { claims = at.claims ++ map expr_tree (members list) })
+read_claims list at place rest some all =
+    sym (starts_claims list.front list.last at (sign kind.RightParen place ∷ rest) some)
+    ∙ read_front kind.Comma expr_tokens claim_or_end add_claim FitsClaim (sign kind.RightParen place ∷ rest) (after_claims rest)
+    (λ a m p r g. starts_claim m a _ ∙ claim_comma m a p r g)
+    (λ a m g. starts_claim m a _ ∙ claim_last m a place rest g)
+    (λ a. refl)
+    list.front list.last at (all_claims (members list) at all)
+    ∙ ap (after_claims rest) (gathered_claims (members list) at)
+
+-- Contracts.
+
+-- a contract so far: its method, and the least order of a clause that may follow
+record Clauses : Type 0 where
+  draft : Draft
+  least : ℕ
+
+abbrev add_clause : Clauses → ClauseText → Clauses
+add_clause at clause = record {
+  draft = record { done = at.draft.done; method = with_clause at.draft.method clause.word (claim_trees clause) };
+  least = suc (word_order clause.word);
+}
+
+abbrev FitsClause : Clauses → ClauseText → Type 0
+FitsClause at clause = (at.least ≤ word_order clause.word) × IsClause clause
+
+starts_clause : (word : ClauseWord) (draft : Draft) (least : ℕ) (word_place left : Place) (rest : List Tok) → least ≤ word_order word
+    → run (clause_or_end draft least) (sign (word_kind word) word_place ∷ sign kind.LeftParen left ∷ rest) ≡ run (want alone (record { draft = draft; word = word; claims = [] })) rest
+starts_clause Requiring draft least word_place left rest h =
+    ap (λ b. option_and_then (λ state. run state (sign kind.LeftParen left ∷ rest)) (cond b (Some (claims_due draft Requiring)) None)) (le-leb least 0 h)
+starts_clause Ensuring draft least word_place left rest h =
+    ap (λ b. option_and_then (λ state. run state (sign kind.LeftParen left ∷ rest)) (cond b (Some (claims_due draft Ensuring)) None)) (le-leb least 1 h)
+
+read_clause : (at : Clauses) (clause : ClauseText) (rest : List Tok) → FitsClause at clause
+    → run (clause_or_end at.draft at.least) (clause_tokens clause ++ rest) ≡ run (clause_end (add_clause at clause).draft (add_clause at clause).least) rest
+read_clause at clause rest fits =
+    ap (λ tokens. run (clause_or_end at.draft at.least) (sign (word_kind clause.word) clause.word_place ∷ sign kind.LeftParen clause.left ∷ tokens)) (append_assoc (listed kind.Comma expr_tokens clause.claims) _ rest)
+    ∙ starts_clause clause.word at.draft at.least clause.word_place clause.left _ fits.0
+    ∙ read_claims clause.claims _ clause.right rest fits.1.0 fits.1.1
+
+all_clauses : (clauses : List ClauseText) (at : Clauses) → Ascends at.least clauses → AllByRecursion IsClause clauses → AllFrom add_clause FitsClause at clauses
+all_clauses [] at ascends all = tt
+all_clauses (clause ∷ clauses) at ascends all = ((ascends.0, all.0), all_clauses clauses (add_clause at clause) ascends.1 all.1)
+
+gathered_clauses : (clauses : List ClauseText) (at : Clauses) → (gathered add_clause at clauses).draft ≡ record { done = at.draft.done; method = with_clauses at.draft.method clauses }
+gathered_clauses [] at = refl
+gathered_clauses (clause ∷ clauses) at = gathered_clauses clauses (add_clause at clause)
+
+read_contract : (draft : Draft) (contract : ContractText) (rest : List Tok) → IsContract contract
+    → run (body draft) (contract_tokens contract ++ rest) ≡ run (body_end (record { done = draft.done; method = with_clauses draft.method (members contract.clauses) })) rest
+read_contract draft contract rest well =
+    ap (λ tokens. run (clause_or_end draft 0) tokens) (append_assoc (listed kind.Comma clause_tokens contract.clauses) _ rest)
+    ∙ read_front kind.Comma clause_tokens (λ at. clause_or_end at.draft at.least) add_clause FitsClause (sign kind.RightParen contract.right ∷ rest) (λ at. run (body_end at.draft) rest)
+    (λ a m p r fits. read_clause a m (sign kind.Comma p ∷ r) fits)
+    (λ a m fits. read_clause a m (sign kind.RightParen contract.right ∷ rest) fits)
+    (λ a. refl)
+    contract.clauses.front contract.clauses.last (record { draft = draft; least = 0 }) (all_clauses (members contract.clauses) _ well.0 well.1)
+    ∙ ap (λ d. run (body_end d) rest) (gathered_clauses (members contract.clauses) (record { draft = draft; least = 0 }))
+
+read_body : (draft : Draft) (contract : Option ContractText) (place : Place) (rest : List Tok) → IsOptional IsContract contract
+    → run (body draft) (optional contract_tokens contract ++ sign kind.RightBrace place ∷ rest) ≡ run (ended (draft.done ++ Method (with_contract draft.method contract) ∷ [])) rest
+read_body draft None place rest well = refl
+read_body draft (Some contract) place rest well = read_contract draft contract (sign kind.RightBrace place ∷ rest) well
+
+-- Methods.
+
+abbrev add_param : List Param → ParamText → List Param
+add_param params param = params ++ param_tree param ∷ []
+
+abbrev FitsParam : List Param → ParamText → Type 0
+FitsParam params param = IsParam param
+
+read_type_of_param : (done : List Decl) (name : Name) (params : List Param) (param : Name) (ty : TypeName) (rest : List Tok)
+    → run (param_type done name params param) (type_token ty ∷ rest) ≡ run (param_end done name (params ++ record { name = param; ty = ty } ∷ [])) rest
+read_type_of_param done name params param (B place) rest = refl
+read_type_of_param done name params param (UnitType place) rest = refl
+
+read_param : (done : List Decl) (name : Name) (params : List Param) (param : ParamText) (rest : List Tok) → IsParam param
+    → run (param_or_end done name params) (param_tokens param ++ rest) ≡ run (param_end done name (add_param params param)) rest
+read_param done name params param rest plain =
+    ap (λ b. option_and_then (λ state. run state (sign kind.Colon param.colon ∷ type_token param.ty ∷ rest)) (cond b (Some (param_colon done name params param.name)) None)) plain
+    ∙ read_type_of_param done name params param.name param.ty rest
+
+all_params : (texts : List ParamText) (params : List Param) → AllByRecursion IsParam texts → AllFrom add_param FitsParam params texts
+all_params [] params h = tt
+all_params (text ∷ texts) params h = (h.0, all_params texts (add_param params text) h.1)
+
+gathered_params : (texts : List ParamText) (params : List Param) → gathered add_param params texts ≡ params ++ map param_tree texts
+gathered_params [] params = sym (append-nil params)
+gathered_params (text ∷ texts) params = gathered_params texts (add_param params text) ∙ append_assoc params (param_tree text ∷ []) (map param_tree texts)
+
+read_params : (done : List Decl) (name : Name) (list : Listed ParamText) (place : Place) (rest : List Tok) → AllByRecursion IsParam (members list)
+    → run (param_or_end done name []) (listed kind.Comma param_tokens list ++ sign kind.RightParen place ∷ rest) ≡ run (result_colon done name (map param_tree (members list))) rest
+read_params done name list place rest all =
+    read_front kind.Comma param_tokens (param_or_end done name) add_param FitsParam (sign kind.RightParen place ∷ rest) (λ params. run (result_colon done name params) rest)
+    (λ a m p r fits. read_param done name a m (sign kind.Comma p ∷ r) fits)
+    (λ a m fits. read_param done name a m (sign kind.RightParen place ∷ rest) fits)
+    (λ a. refl)
+    list.front list.last [] (all_params (members list) [] all)
+    ∙ ap (λ params. run (result_colon done name params) rest) (gathered_params (members list) [])
+
+read_result_type : (done : List Decl) (name : Name) (params : List Param) (ty : TypeName) (rest : List Tok)
+    → run (result_type done name params) (type_token ty ∷ rest) ≡ run (equals (record { done = done; method = bare_method name params ty })) rest
+read_result_type done name params (B place) rest = refl
+read_result_type done name params (UnitType place) rest = refl
+
+read_method : (done : List Decl) (m : MethodText) (rest : List Tok) → IsMethod m
+    → run (top done) (method_tokens m ++ rest) ≡ run (ended (done ++ decl_tree m ∷ [])) rest
+read_method done m rest well =
+    let draft : Draft = record { done = done; method = bare_method m.name (map param_tree (members m.params)) m.result_type } in
+    let params = listed kind.Comma param_tokens m.params in
+    let behind : List Tok = sign kind.RightParen m.right ∷ sign kind.Colon m.colon ∷ type_token m.result_type ∷ sign kind.Equals m.equals
+    ∷ sign kind.LeftBrace m.begin ∷ optional contract_tokens m.contract in
+    let whole : List Tok = sign kind.LeftParen m.left ∷ params ++ (behind ++ sign kind.RightBrace m.end ∷ rest) in
+    ap (λ tokens. run (top done) (sign kind.Def m.word_place ∷ name_token m.name ∷ sign kind.LeftParen m.left ∷ tokens))
+    (append_assoc (params ++ behind) (sign kind.RightBrace m.end ∷ []) rest ∙ append_assoc params behind (sign kind.RightBrace m.end ∷ rest))
+    ∙ ap (λ b. option_and_then (λ state. run state whole) (cond b (Some (params_due done m.name)) None)) well.0
+    ∙ read_params done m.name m.params m.right _ well.1
+    ∙ read_result_type done m.name (map param_tree (members m.params)) m.result_type (sign kind.Equals m.equals ∷ sign kind.LeftBrace m.begin ∷ optional contract_tokens m.contract ++ sign kind.RightBrace m.end ∷ rest)
+    ∙ read_body draft m.contract m.end rest well.2
+
+-- Texts.
+
+abbrev add_method : List Decl → MethodText → List Decl
+add_method done m = done ++ decl_tree m ∷ []
+
+abbrev FitsMethod : List Decl → MethodText → Type 0
+FitsMethod done m = IsMethod m
+
+all_methods : (texts : List MethodText) (done : List Decl) → AllByRecursion IsMethod texts → AllFrom add_method FitsMethod done texts
+all_methods [] done h = tt
+all_methods (text ∷ texts) done h = (h.0, all_methods texts (add_method done text) h.1)
+
+gathered_methods : (texts : List MethodText) (done : List Decl) → gathered add_method done texts ≡ done ++ map decl_tree texts
+gathered_methods [] done = sym (append-nil done)
+gathered_methods (text ∷ texts) done = gathered_methods texts (add_method done text) ∙ append_assoc done (decl_tree text ∷ []) (map decl_tree texts)
+
+-- what is in the grammar is read, with its tree
+pub complete : (tokens : List Tok) (file : File) → InGrammar tokens file → run (top []) tokens ≡ Some file
+complete tokens file in_grammar =
+    let list = in_grammar.text in
+    ap (run (top [])) (sym in_grammar.spelled ∙ sym (append-nil (file_tokens list)))
+    ∙ read_front kind.Newline method_tokens top add_method FitsMethod [] (λ done. Some (record { items = done }))
+    (λ a m p r fits. read_method a m (sign kind.Newline p ∷ r) fits)
+    (λ a m fits. read_method a m [] fits)
+    (λ a. refl)
+    list.front list.last [] (all_methods (members list) [] in_grammar.well_formed)
+    ∙ ap (λ done. Some (record { items = done })) (gathered_methods (members list) [])
+    ∙ ap Some in_grammar.shaped

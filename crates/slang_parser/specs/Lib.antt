@@ -1,0 +1,5 @@
+pub mod Grammar
+pub mod Machine
+pub mod Gives
+pub mod Below
+pub mod Lists

@@ -1,0 +1,171 @@
+-- A machine that reads a text token by token. It is private to the contracts of this crate, and serves to prove them:
+-- what it reads to the end is the text's tree by the grammar (`proofs/Sound`, `proofs/Complete`).
+use Rattle.std.specs.Prelude.{ℕ, suc, Bool, ◌&&◌, if◌then◌else◌, nat_le, List, [], ◌∷◌, ◌++◌, Option, Some, None, option_and_then}
+use Rattle.std.specs.Option.{option_map}
+use Rattle.lk_ast.specs.declared.tree.Place.{Place}
+use Rattle.lk_ast.specs.declared.tree.Name.{Name}
+use Rattle.lk_ast.specs.declared.tree.File.{File}
+use Rattle.lk_ast.specs.declared.tree.Decl.{Decl}
+use Rattle.lk_ast.specs.declared.tree.Decl.TheVariants.{Method}
+use Rattle.lk_ast.specs.declared.tree.MethodDecl.{MethodDecl}
+use Rattle.lk_ast.specs.declared.tree.Param.{Param}
+use Rattle.lk_ast.specs.declared.tree.TypeName.{TypeName}
+use Rattle.lk_ast.specs.declared.tree.TypeName.TheVariants.{B, Unit as UnitType}
+use Rattle.lk_ast.specs.declared.tree.Expr.{Expr}
+use Rattle.lk_ast.specs.declared.tree.Expr.TheVariants as e
+use Rattle.slang_lexer.specs.declared.token.TokenKind.{TokenKind}
+use Rattle.slang_lexer.specs.declared.token.TokenKind.TheVariants as kind
+use Rattle.slang_tokens.specs.Tok.{Tok, same_kind}
+use Rattle.slang_parser.specs.declared.operator.Operator.{Operator}
+use Rattle.slang_parser.specs.declared.operator.Operator.TheVariants.{Conjunction}
+use Rattle.slang_parser.specs.declared.contract.ClauseWord.{ClauseWord}
+use Rattle.slang_parser.specs.declared.contract.ClauseWord.TheVariants.{Requiring, Ensuring}
+use Rattle.slang_parser.specs.Grammar.{is_plain, operator_level, binary_tree, word_order, with_clause, bare_method}
+
+-- what is open around an operand: prefixes, and operators that wait for their right operand
+pub data Around : Type 0 where
+  alone : Around
+  negated : Place → Around → Around
+  right_of : Expr → Operator → Around → Around
+
+-- an expression, and what is still open around it
+pub record Grown : Type 0 where
+  pub expr : Expr
+  pub around : Around
+
+-- the operand, grown by the prefixes and by the operators from this level on
+abbrev pub close : ℕ → Expr → Around → Grown
+close least expr alone = record { expr = expr; around = alone }
+close least expr (negated place around) = close least (e.Not place expr) around
+close least expr (right_of left operator around) =
+    if nat_le least (operator_level operator) then close least (binary_tree operator left expr) around
+    else record { expr = expr; around = right_of left operator around }
+
+-- the declarations before a method, and the method so far
+pub record Draft : Type 0 where
+  pub done : List Decl
+  pub method : MethodDecl
+
+-- the claims of a clause so far
+pub record Claims : Type 0 where
+  pub draft : Draft
+  pub word : ClauseWord
+  pub claims : List Expr
+
+abbrev pub with_claim : Claims → Expr → Claims
+with_claim at claim = record at { claims = at.claims ++ claim ∷ [] }
+
+abbrev pub with_claims : Claims → Draft
+with_claims at = record { done = at.draft.done; method = with_clause at.draft.method at.word at.claims }
+
+-- what may come next
+pub data State : Type 0 where
+  top : List Decl → State
+  ended : List Decl → State
+  naming : List Decl → State
+  params_due : List Decl → Name → State
+  param_or_end : List Decl → Name → List Param → State
+  param_colon : List Decl → Name → List Param → Name → State
+  param_type : List Decl → Name → List Param → Name → State
+  param_end : List Decl → Name → List Param → State
+  result_colon : List Decl → Name → List Param → State
+  result_type : List Decl → Name → List Param → State
+  equals : Draft → State
+  begin : Draft → State
+  body : Draft → State
+  clauses_due : Draft → State
+  clause_or_end : Draft → ℕ → State
+  claims_due : Draft → ClauseWord → State
+  want : Around → Claims → State
+  have : Expr → Around → Claims → State
+  claim_or_end : Claims → State
+  clause_end : Draft → ℕ → State
+  body_end : Draft → State
+
+abbrev pub is : TokenKind → Tok → Bool
+is k token = same_kind token.kind k
+
+abbrev pub is_name : Tok → Bool
+is_name token = is kind.Name token && is_plain token.text
+
+abbrev pub name_of : Tok → Name
+name_of token = record { text = token.text; place = token.place }
+
+abbrev pub on : {A : Type 0} → Bool → A → Option A
+on test value = if test then Some value else None
+
+abbrev pub type_of : Tok → Option TypeName
+type_of token = if is kind.TypeB token then Some (B token.place) else on (is kind.TypeUnit token) (UnitType token.place)
+
+abbrev pub word_of : Tok → Option ClauseWord
+word_of token = if is kind.Requires token then Some Requiring else on (is kind.Ensures token) Ensuring
+
+abbrev pub operator_of : Tok → Option Operator
+operator_of token = on (is kind.Ampersand token) Conjunction
+
+-- an operand is due
+abbrev pub next_operand : Around → Claims → Tok → Option State
+next_operand around at token =
+    if is kind.True token then Some (have (e.True token.place) around at)
+    else (if is kind.False token then Some (have (e.False token.place) around at)
+    else (if is_name token then Some (have (e.Name (name_of token)) around at)
+    else on (is kind.Bang token) (want (negated token.place around) at)))
+
+-- a claim has come to its end
+abbrev pub next_claim : Claims → Tok → Option State
+next_claim at token =
+    if is kind.Comma token then Some (claim_or_end at)
+    else on (is kind.RightParen token) (clause_end (with_claims at) (suc (word_order at.word)))
+
+-- an operand has been read
+abbrev pub next_operator : Expr → Around → Claims → Tok → Option Operator → Option State
+next_operator expr around at token (Some operator) =
+    let grown = close (operator_level operator) expr around in Some (want (right_of grown.expr operator grown.around) at)
+next_operator expr around at token None = next_claim (with_claim at (close 0 expr around).expr) token
+
+abbrev pub next_clause : Draft → ℕ → Option ClauseWord → Option State
+next_clause draft least (Some word) = on (nat_le least (word_order word)) (claims_due draft word)
+next_clause draft least None = None
+
+abbrev pub with_param : List Decl → Name → List Param → Name → TypeName → State
+with_param done name params param ty = param_end done name (params ++ record { name = param; ty = ty } ∷ [])
+
+abbrev pub next : State → Tok → Option State
+next (top done) token = on (is kind.Def token) (naming done)
+next (ended done) token = on (is kind.Newline token) (top done)
+next (naming done) token = on (is_name token) (params_due done (name_of token))
+next (params_due done name) token = on (is kind.LeftParen token) (param_or_end done name [])
+next (param_or_end done name params) token =
+    if is kind.RightParen token then Some (result_colon done name params) else on (is_name token) (param_colon done name params (name_of token))
+next (param_colon done name params param) token = on (is kind.Colon token) (param_type done name params param)
+next (param_type done name params param) token = option_map (with_param done name params param) (type_of token)
+next (param_end done name params) token =
+    if is kind.Comma token then Some (param_or_end done name params) else on (is kind.RightParen token) (result_colon done name params)
+next (result_colon done name params) token = on (is kind.Colon token) (result_type done name params)
+next (result_type done name params) token = option_map (λ ty. equals (record { done = done; method = bare_method name params ty })) (type_of token)
+next (equals draft) token = on (is kind.Equals token) (begin draft)
+next (begin draft) token = on (is kind.LeftBrace token) (body draft)
+next (body draft) token =
+    if is kind.RightBrace token then Some (ended (draft.done ++ Method draft.method ∷ [])) else on (is kind.Contract token) (clauses_due draft)
+next (clauses_due draft) token = on (is kind.LeftParen token) (clause_or_end draft 0)
+next (clause_or_end draft least) token =
+    if is kind.RightParen token then Some (body_end draft) else next_clause draft least (word_of token)
+next (claims_due draft word) token = on (is kind.LeftParen token) (want alone (record { draft = draft; word = word; claims = [] }))
+next (want around at) token = next_operand around at token
+next (have expr around at) token = next_operator expr around at token (operator_of token)
+next (claim_or_end at) token =
+    if is kind.RightParen token then Some (clause_end (with_claims at) (suc (word_order at.word))) else next_operand alone at token
+next (clause_end draft least) token =
+    if is kind.Comma token then Some (clause_or_end draft least) else on (is kind.RightParen token) (body_end draft)
+next (body_end draft) token = on (is kind.RightBrace token) (ended (draft.done ++ Method draft.method ∷ []))
+
+-- the text at its end
+abbrev pub finish : State → Option File
+finish (top done) = Some (record { items = done })
+finish (ended done) = Some (record { items = done })
+finish _ = None
+
+-- the tree of the text, from a state on
+abbrev pub run : State → List Tok → Option File
+run state [] = finish state
+run state (token ∷ tokens) = option_and_then (λ state'. run state' tokens) (next state token)

@@ -1,0 +1,6 @@
+-- The front of the code as that of the rule.
+use Rattle.slang_tokens.specs.declared.lines.Front.{Front as Kept}
+use Rattle.slang_tokens.specs.Lines.{Front}
+
+abbrev pub front : Kept → Front
+front kept = record { outer = kept.outer.items; grouped = kept.grouped; able = kept.able; waiting = kept.waiting }

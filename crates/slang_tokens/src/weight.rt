@@ -1,0 +1,125 @@
+ghost use Rattle.std.specs.Prelude.{◌≡◌, ◌+◌, ◌≤◌, ◌<◌, ◌^◌, OnOk, IfOk, sum};
+ghost use Rattle.slang_tokens.specs.Tok.{toks};
+ghost use Rattle.slang_tokens.specs.Weight as spec;
+
+use crate::lexeme::Lexeme;
+use crate::lines::{closes, opens};
+use slang_lexer::TokenKind;
+use std::alloc::{AllocError, Global};
+
+const COUNTED: [TokenKind; 23] = [
+    TokenKind::DoubleEquals,
+    TokenKind::NotEquals,
+    TokenKind::Less,
+    TokenKind::LessOrEqual,
+    TokenKind::Greater,
+    TokenKind::GreaterOrEqual,
+    TokenKind::Plus,
+    TokenKind::Minus,
+    TokenKind::Star,
+    TokenKind::Slash,
+    TokenKind::Percent,
+    TokenKind::Ampersand,
+    TokenKind::DoubleAmpersand,
+    TokenKind::Bar,
+    TokenKind::DoubleBar,
+    TokenKind::Bang,
+    TokenKind::DashArrow,
+    TokenKind::LongDashArrow,
+    TokenKind::LowArrow,
+    TokenKind::LongLowArrow,
+    TokenKind::ColonPlus,
+    TokenKind::Dot,
+    TokenKind::Else,
+];
+
+#[tactic(auto, unfolding(crate::specs::Weight::counted_kinds))]
+fn is_counted(kind: TokenKind) -> bool
+    ensures { result ≡ spec.is_counted kind }
+{
+    COUNTED.contains(&kind)
+}
+
+/// The counts of the levels that are open.
+#[derive(Drop)]
+pub struct Counts {
+    pub outer: Vec<u32>,
+    pub here: u32,
+    /// The sum of all of them.
+    pub weight: u32,
+    ghost weighed: { weight ≡ sum outer.items + here },
+}
+
+impl Counts {
+    ghost use Rattle.slang_tokens.specs.Counts.{counts_of};
+
+    fn new(alloc: Global) -> Counts
+        ensures { counts_of result ≡ spec.no_counts }
+    {
+        Counts {
+            outer: Vec::new(alloc),
+            here: 0,
+            weight: 0,
+        }
+    }
+
+    /// Counts one more token.
+    fn count(&mut self, kind: TokenKind) -> Result<(), AllocError>
+        requires { self.old.weight + 1 < 2 ^ 32 }
+        ensures counted { OnOk result (counts_of self.new ≡ spec.counted (counts_of self.old) kind) }
+    {
+        if opens(kind) {
+            self.open()
+        } else {
+            self.count_here(kind);
+            Ok(())
+        }
+    }
+
+    fn open(&mut self) -> Result<(), AllocError>
+        requires { self.old.weight + 1 < 2 ^ 32 }
+        ensures { OnOk result (counts_of self.new ≡ spec.opened (counts_of self.old)) }
+    {
+        self.outer.push(self.here + 1)?;
+        self.weight += 1;
+        self.here = 0;
+        Ok(())
+    }
+
+    fn close(&mut self)
+        ensures { counts_of self.new ≡ spec.closed (counts_of self.old) }
+    {
+        self.weight -= self.here;
+        self.here = self.outer.pop().unwrap_or(0);
+    }
+
+    fn count_here(&mut self, kind: TokenKind)
+        requires { self.old.weight + 1 < 2 ^ 32 }
+        ensures { counts_of self.new ≡ spec.counted_here (counts_of self.old) kind }
+    {
+        if closes(kind) {
+            self.close();
+        } else if kind == TokenKind::Comma || kind == TokenKind::Newline {
+            self.weight -= self.here;
+            self.here = 0;
+        } else if is_counted(kind) {
+            self.weight += 1;
+            self.here += 1;
+        }
+    }
+}
+
+/// Whether no token weighs more than the limit.
+pub fn is_light(alloc: Global, limit: u32, tokens: &[Lexeme<'_>]) -> Result<bool, AllocError>
+    requires { limit + 2 < 2 ^ 32 }
+    ensures { IfOk result (λ light. light ≡ spec.is_light limit spec.no_counts (toks tokens.now)) }
+{
+    let mut counts = Counts::new(alloc);
+    for token in tokens {
+        counts.count(token.kind)?;
+        if counts.weight > limit {
+            return Ok(false);
+        }
+    }
+    Ok(true)
+}

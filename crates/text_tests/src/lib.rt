@@ -1,0 +1,5 @@
+//! Texts and what the parser answers on them.
+#![tactic(auto)]
+
+#[cfg(test)]
+mod tests;

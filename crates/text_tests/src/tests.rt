@@ -1,0 +1,178 @@
+use lk_ast::{Decl, Expr, Fault, File, MethodDecl, Name, Place, TypeName};
+use slang_parser::{ParseEnd, parse, reads_one_tree};
+use slang_tokens::{is_light, read_tokens};
+use std::alloc::Global;
+use std::process::Abort;
+use std::test::Fail;
+
+const KEEP: &str =
+    "def keep(p: B, q: B): Unit = {\n  Contract(\n    Requires(p & q),\n    Ensures(q)\n  )\n}\n";
+
+/// Texts that are read, each with the number of its methods.
+const READ: [(&str, usize); 18] = [
+    ("", 0),
+    ("\n\n \t\r\n", 0),
+    ("// a comment\n/* and one more */\n", 0),
+    (KEEP, 1),
+    ("def f(): Unit = {\n}", 1),
+    ("def f(): Unit = { }\ndef g(): Unit = {\n}\n", 2),
+    ("def f(): Unit = { };def g(): Unit = { }", 2),
+    ("def f(p: B,): B = {\n  Contract()\n}\n;\n;", 1),
+    (
+        "def f(\np: B\n,\nq: B\n)\n: Unit =\n{ Contract(Requires(p,q,),) }",
+        1,
+    ),
+    ("def f(p: B): Unit = { Contract(Ensures(T)) }", 1),
+    (
+        "def f(p: B): Unit = { Contract(Requires(F), Ensures(!!p & T & !p)) }",
+        1,
+    ),
+    (
+        "def f(p: B): Unit = { Contract(Requires(p & /* here */ p)) }",
+        1,
+    ),
+    (
+        "def f(p: B): Unit = { Contract(Requires(p) // there\n) }",
+        1,
+    ),
+    ("def f(p: B, p: B): Unit = { Contract(Ensures(q)) }", 1),
+    (
+        "def _f(\u{3b1}: B): Unit = { Contract(Ensures(\u{3b1})) }",
+        1,
+    ),
+    ("def f(p: Unit): Unit = { }", 1),
+    ("def f(p: B): Unit\n= { }", 1),
+    ("def f(): Unit = {\n\n\nContract()\n\n}", 1),
+];
+
+/// Texts of another form.
+const REFUSED: [&str; 27] = [
+    "def",
+    "def f",
+    "def f(): Unit",
+    "def f(): Unit = {",
+    "def f(): Unit = { } def g(): Unit = { }",
+    "def f()\ndef g()",
+    "def f(,): Unit = { }",
+    "def f(p: B, , q: B): Unit = { }",
+    "def f(p): Unit = { }",
+    "def f(p: Z): Z = { }",
+    "def _(): Unit = { }",
+    "def f(_: B): Unit = { }",
+    "def f(p: B): Unit = { Contract(Requires()) }",
+    "def f(p: B): Unit = { Contract(Requires(,)) }",
+    "def f(p: B): Unit = { Contract(,) }",
+    "def f(p: B): Unit = { Contract(Ensures(p), Requires(p)) }",
+    "def f(p: B): Unit = { Contract(Requires(p), Requires(p)) }",
+    "def f(p: B): Unit = { Contract(Requires(p) Ensures(p)) }",
+    "def f(p: B): Unit = { Contract(Requires(p &)) }",
+    "def f(p: B): Unit = { Contract(Requires((p))) }",
+    "def f(p: B): Unit = { Contract(Requires(p | p)) }",
+    "def f(p: B): Unit = { Contract(Requires(p !p)) }",
+    "def f(p: B): Unit = { Contract(); Contract() }",
+    "def f(p: B): Unit = { return p }",
+    "def f(): Unit = { } # ",
+    "def f(): Unit = { } /* ",
+    "val t: B = T",
+];
+
+fn line(line: u32, col: u32) -> Place {
+    Place { line, col }
+}
+
+fn assert_name(rt: &impl Abort, name: &Name, text: &str, place: Place) {
+    assert_eq!(rt; name.text.as_str(), text);
+    assert_eq!(rt; name.place, place);
+}
+
+fn only_method<'f>(rt: &impl Abort, file: &'f File) -> &'f MethodDecl {
+    let items = file.items.as_slice();
+    assert_eq!(rt; items.len(), 1);
+    match &items[0] {
+        Decl::Method(method) => method,
+    }
+}
+
+#[test]
+fn keep_has_its_tree(rt: HostRuntime) -> Result<(), Fail> {
+    let file = parse(rt.alloc(), KEEP.as_bytes())?;
+    let method = only_method(&rt, &file);
+    assert_name(&rt, &method.name, "keep", line(1, 5));
+    assert_eq!(rt; method.result, TypeName::Unit(line(1, 23)));
+    let params = method.params.as_slice();
+    assert_eq!(rt; params.len(), 2);
+    assert_name(&rt, &params[0].name, "p", line(1, 10));
+    assert_name(&rt, &params[1].name, "q", line(1, 16));
+    assert_eq!(rt; params[1].ty, TypeName::B(line(1, 19)));
+    let required = method.requires_.as_slice();
+    assert_eq!(rt; required.len(), 1);
+    match &required[0] {
+        Expr::And(place, left, right) => {
+            assert_eq!(rt; *place, line(3, 14));
+            match (left.get(), right.get()) {
+                (Expr::Name(p), Expr::Name(q)) => {
+                    assert_name(&rt, p, "p", line(3, 14));
+                    assert_name(&rt, q, "q", line(3, 18));
+                }
+                _ => assert!(rt; false),
+            }
+        }
+        _ => assert!(rt; false),
+    }
+    let ensured = method.ensures_.as_slice();
+    assert_eq!(rt; ensured.len(), 1);
+    match &ensured[0] {
+        Expr::Name(q) => assert_name(&rt, q, "q", line(4, 13)),
+        _ => assert!(rt; false),
+    }
+    Ok(())
+}
+
+#[test]
+fn texts_are_read_or_refused(rt: HostRuntime) -> Result<(), Fail> {
+    for (text, methods) in READ {
+        let file = parse(rt.alloc(), text.as_bytes())?;
+        assert_eq!(rt; file.items.len(), methods, "{text}");
+    }
+    for text in REFUSED {
+        assert!(rt; is_refused(rt.alloc(), text.as_bytes()), "{text}");
+    }
+    assert!(rt; is_refused(rt.alloc(), b"def f(): Unit = { }\xff"));
+    Ok(())
+}
+
+/// Whether the parser answers the fault 14 at 1:1.
+fn is_refused(alloc: Global, bytes: &[u8]) -> bool {
+    match parse(alloc, bytes) {
+        Err(ParseEnd::Fault(fault)) => fault
+            == Fault {
+                code: 14,
+                place: line(1, 1),
+            },
+        _ => false,
+    }
+}
+
+#[test]
+fn cut_texts_are_refused(rt: HostRuntime) -> Result<(), Fail> {
+    // Nothing, and the text without its last newline, are texts too.
+    for end in 1..KEEP.len() - 1 {
+        assert!(rt; is_refused(rt.alloc(), &KEEP.as_bytes()[..end]), "{end}");
+    }
+    Ok(())
+}
+
+#[test]
+fn tokens_have_places_and_weights(rt: HostRuntime) -> Result<(), Fail> {
+    reads_one_tree();
+    let text = "a &\n\n\u{3b1} ; \n b";
+    let tokens = read_tokens(rt.alloc(), text)?;
+    let places = [line(1, 1), line(1, 3), line(3, 1), line(3, 3), line(4, 2)];
+    assert_eq!(rt; tokens.len(), places.len());
+    for (token, place) in tokens.iter().zip(places.iter()) {
+        assert_eq!(rt; token.place, *place);
+    }
+    assert!(rt; is_light(rt.alloc(), 1, &tokens)?);
+    assert!(rt; !is_light(rt.alloc(), 0, &tokens)?);
+    Ok(())
+}

@@ -1,0 +1,5 @@
+pub mod CanonicalValues
+pub mod FormOrder
+pub mod FormValues
+pub mod Ordered
+pub mod TreesApart

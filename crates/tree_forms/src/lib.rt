@@ -1,0 +1,4 @@
+//! The order of trees and linear forms, as definitions with their laws.
+#![tactic(auto)]
+
+pub mod laws;

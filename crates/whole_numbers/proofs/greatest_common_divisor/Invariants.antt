@@ -1,0 +1,10 @@
+use Rattle.std.proofs.Common.{ℕ}
+use Rattle.std.specs.Int.{IsGcd}
+use Rattle.whole_numbers.proofs.greatest_common_divisor.Given as goal
+
+-- what divides the two numbers left divides the two numbers given
+abbrev pub invariant-steps : goal.invariant-steps
+invariant-steps l = (g : ℕ) → IsGcd l.x l.y g → IsGcd l.fn.a l.fn.b g
+
+abbrev pub decreases-steps : goal.decreases-steps
+decreases-steps l = l.y

@@ -1,0 +1,6 @@
+def keep(p: B, q: B): Unit = {
+  Contract(
+    Requires(p & q),
+    Ensures(q)
+  )
+}
