@@ -1,5 +1,5 @@
 -- A run follows one leg at a time: where the legs pass, it does not fail.
-use Rattle.std.proofs.Common.{◌≡◌, Bool, true, not, cond, List, [], ◌∷◌, ◌++◌, Option, Some, None, map, refl, ap, sym, ◌∙◌, subst}
+use Rattle.std.proofs.Common.{◌≡◌, ℕ, ◌+◌, Bool, true, not, cond, List, [], ◌∷◌, ◌++◌, Option, Some, None, map, refl, ap, sym, ◌∙◌, subst}
 use Rattle.std.specs.List.{AllByRecursion}
 use Rattle.std.proofs.lemmas.List.Elements.{recursion_from_All}
 use Rattle.lk_ast.specs.declared.check.Kind.{Kind}
@@ -7,7 +7,7 @@ use Rattle.lk_ast.specs.declared.check.Kind.TheVariants as kinds
 use Rattle.lk_ast.specs.ProgramTree.{NotedTree, MethodTree}
 use Rattle.lk_ast.specs.LegTree.{NotedItem}
 use Rattle.fresh_check.specs.Values.{claim_value, value_at}
-use Rattle.fresh_check.specs.Runs.{Statement, Stack, last, begin, Outcome, ended, fails, Continuation, body_of, first_false, on_test, going_on, turns, IsFailure, IsSafe}
+use Rattle.fresh_check.specs.Runs.{Statement, Stack, last, begin, Outcome, ended, fails, more, Continuation, body_of, first_false, on_test, going_on, turns, run, IsFailure, IsSafe}
 use Rattle.fresh_check.specs.Legs.{assumptions, checks, legs_of_code, legs}
 use Rattle.fresh_check.proofs.LegLaws.{Passes}
 
@@ -67,3 +67,21 @@ safe_from_passes method passes arguments n fits meets =
     let safe = code_safe (turns n) (body_of method) (last method) arguments following (finish_safe (turns n) method arguments)
     (all_after_assumptions arguments method.requires_ (legs_of_code (body_of method) following) hold (passes arguments)) in
     subst (λ outcome. IsFailure outcome → ⊥) (sym (goes_on arguments method.requires_ (λ noted. fails kinds.Requires method.node) (going_on (turns n) (begin (body_of method) (last method)) arguments) hold)) safe
+
+finish-more : (n : ℕ) (found : Option NotedTree) → on_test found (λ noted. fails kinds.Ensures noted.node) ended ≡ more n (on_test found (λ noted. fails kinds.Ensures noted.node) ended)
+finish-more n None = refl
+finish-more n (Some noted) = refl
+
+going_on-more : (a b : ℕ) (stack : Stack) (values : List Bool) → going_on (turns (a + b)) stack values ≡ more b (going_on (turns a) stack values)
+going_on-more a b (last method) values = finish-more b (first_false values method.ensures_)
+going_on-more a b (begin [] rest) values = going_on-more a b rest values
+going_on-more a b (begin (statement ∷ code) rest) values = elim statement [ ]
+
+entry-more : (n : ℕ) (found : Option NotedTree) (node : ℕ) (long short : Outcome) → long ≡ more n short → on_test found (λ noted. fails kinds.Requires node) long ≡ more n (on_test found (λ noted. fails kinds.Requires node) short)
+entry-more n None node long short same = same
+entry-more n (Some noted) node long short same = refl
+
+-- turns may be given in parts
+pub run-more : (method : MethodTree) (arguments : List Bool) (a b : ℕ) → run method arguments (a + b) ≡ more b (run method arguments a)
+run-more method arguments a b =
+    entry-more b (first_false arguments method.requires_) method.node _ _ (going_on-more a b (begin (body_of method) (last method)) arguments)

@@ -1,5 +1,5 @@
 -- The output of the check of one text, and what its verdicts promise.
-use Rattle.std.specs.Prelude.{◌≡◌, ℕ, ◌⊎◌, ◌==◌, List, [], ◌∷◌, length, map, if◌then◌else◌}
+use Rattle.std.specs.Prelude.{◌≡◌, ℕ, ◌<◌, ◌⊎◌, ◌==◌, List, [], ◌∷◌, length, map, if◌then◌else◌}
 use Rattle.std.specs.List.{All}
 use Rattle.lk_ast.specs.declared.tree.File.{File}
 use Rattle.lk_ast.specs.ProgramTree.{MethodTree, ProgramTree}
@@ -10,6 +10,7 @@ use Rattle.fresh_check.specs.Runs.{IsSafe}
 use Rattle.fresh_check.specs.Verdicts.{verdict}
 use Rattle.fresh_check.specs.Texts.{faults_text, verdicts_text, verified_count}
 use Rattle.fresh_check.specs.declared.report.Line.{Line}
+use Rattle.fresh_check.specs.declared.verdicts.Verdict.{Verdict}
 use Rattle.fresh_check.specs.declared.verdicts.Verdict.TheVariants as verdicts
 
 -- The text has this program: the grammar reads it as a tree of which the rules of typing hold, and the program is the one that the tree says.
@@ -41,3 +42,8 @@ IsOutput bytes text code =
 -- Of the program that a text has, no run of a verified method fails: of any number of turns, from any arguments that meet its Requires.
 abbrev pub VerifiedIsSafe : List ℕ → Type 0
 VerifiedIsSafe bytes = (program : ProgramTree) → HasProgram bytes program → All (λ method. verdict method ≡ verdicts.Verified → IsSafe method) program.methods
+
+-- The verdict names a node of the program, where it names one.
+abbrev pub NamesNodeOf : ProgramTree → Verdict → Type 0
+NamesNodeOf program verdicts.Verified = Unit {0}
+NamesNodeOf program (verdicts.Unproved node kind reason) = node.0 < length program.nodes

@@ -64,6 +64,12 @@ run method arguments n =
     on_test (first_false arguments method.requires_) (λ noted. fails kinds.Requires method.node)
     (going_on (turns n) (begin (body_of method) (last method)) arguments)
 
+-- A run that is going goes on with more turns. All else stays as it is.
+abbrev pub more : ℕ → Outcome → Outcome
+more n ended = ended
+more n (going stack values) = going_on (turns n) stack values
+more n (fails kind node) = fails kind node
+
 abbrev pub IsFailure : Outcome → Type 0
 IsFailure ended = ⊥
 IsFailure (going stack values) = ⊥

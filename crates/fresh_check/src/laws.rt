@@ -1,7 +1,11 @@
 //! Laws over the definitions, as the contracts of functions that do nothing.
-ghost use Rattle.std.specs.Prelude.{◌≡◌, ℕ, List};
+ghost use Rattle.std.specs.Prelude.{◌≡◌, ◌+◌, ℕ, Bool, List};
 ghost use Rattle.fresh_check.specs.Closing.{closed, closing};
-ghost use Rattle.fresh_check.specs.Output.{IsOutput, VerifiedIsSafe};
+ghost use Rattle.fresh_check.specs.Output.{HasProgram, IsOutput, NamesNodeOf, VerifiedIsSafe};
+ghost use Rattle.fresh_check.specs.Verdicts.{verdict};
+ghost use Rattle.lk_ast.specs.ProgramTree.{MethodTree, ProgramTree};
+ghost use Rattle.std.specs.List.{All};
+ghost use Rattle.fresh_check.specs.Runs.{more, run};
 ghost use Rattle.fresh_check.specs.TermTree.{SequentTree};
 ghost use Rattle.fresh_check.specs.Validity.{IsValid};
 
@@ -24,3 +28,14 @@ pub fn one_output()
 {
     reads_one_tree();
 }
+
+/// Each node that is reported of a text is a node of its program.
+pub fn reported_nodes()
+    ensures { (bytes : List ℕ) (program : ProgramTree) → HasProgram bytes program →
+        All (λ method. NamesNodeOf program (verdict method)) program.methods }
+{}
+
+/// A run of some turns that is given more turns is the run of their sum.
+pub fn more_turns()
+    ensures { (method : MethodTree) (arguments : List Bool) (a b : ℕ) → run method arguments (a + b) ≡ more b (run method arguments a) }
+{}
