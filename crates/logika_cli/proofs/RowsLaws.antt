@@ -4,10 +4,10 @@ use Rattle.lk_io.specs.Source.{SourceRun, Tells}
 use Rattle.lk_io.specs.Sink.{SinkRun, Appends, GivesPart, IsQuiet, IsFault}
 use Rattle.logika_cli.specs.Reading.{HasNoFault}
 use Rattle.logika_cli.specs.Journal.{GetsLine, write_fault_line}
-use Rattle.logika_cli.specs.Status.{Due, End, as_due, read_fault, write_fault, no_memory, code_of, line_of, EndsBy, HasStatus}
+use Rattle.logika_cli.specs.Status.{Due, End, as_due, read_fault, write_fault, no_memory, code_of, line_of, EndsBy, GivesEarlier, GivesDue, HasStatus}
 use Rattle.logika_cli.specs.Check.{IsDueOfCheck, checked, too_large, check_command}
 use Rattle.fresh_check.proofs.OutputLaws.{verified_is_safe}
-use Rattle.logika_cli.specs.Rows.{Rows}
+use Rattle.logika_cli.specs.Rows.{Rows, GivesFrontOfOutput}
 use Rattle.logika_cli.specs.declared.limits.Limits.{Limits}
 use Rattle.logika_cli.proofs.LimitLaws.{past_or_within}
 
@@ -52,11 +52,8 @@ module _ (limits : Limits) (source : SourceRun) (out journal : SinkRun) (code : 
     answered = λ at. absurd (omega arith);
     read_fault = λ at. absurd (omega arith);
     write_fault = λ at. record {
-      text = text;
-      code = c;
-      output = record { input = input; told = told; within = within; output = output; safe = verified_is_safe input };
+      given = record { text = text; code = c; output = record { input = input; told = told; within = within; output = output; safe = verified_is_safe input }; given = given };
       fault = fault.faults;
-      given = given;
       line = line;
     };
     no_memory = λ at. absurd (omega arith);
@@ -67,6 +64,15 @@ module _ (limits : Limits) (source : SourceRun) (out journal : SinkRun) (code : 
     past = λ told_input line_no is passes read'. absurd (past_or_within passes (rw (told_is input told_input is told) within));
   }
   rows-write {input} told (too_large {line = line_no} passes) writes read given fault code_is line = absurd (elim writes [ inl e ↦ cc | inr more ↦ more refl ])
+
+  part-due : {input : List ℕ} {due : Due} → Tells source.before.left input → IsDueOfCheck limits input due → GivesPart out due.text → GivesPart out [] ⊎ GivesFrontOfOutput limits source out
+  part-due {input} told (checked {text} {code = c} within output small) given =
+      inr (record { text = text; code = c; output = record { input = input; told = told; within = within; output = output; safe = verified_is_safe input }; given = given })
+  part-due told (too_large passes) given = inl given
+
+  parts : GivesEarlier (check_command limits) source out ⊎ GivesDue (check_command limits) source out → GivesPart out [] ⊎ GivesFrontOfOutput limits source out
+  parts (inl earlier) = inl (rw earlier.earlier at earlier.given)
+  parts (inr due) = part-due due.is_due.told due.is_due.is_due due.given
 
   rows : (end : End) → EndsBy (check_command limits) source out end → code ≡ code_of end → GetsLine journal (line_of end) → Rows limits source out journal code
   rows (as_due due) ends code_is line = rows-due ends.is_due.told ends.is_due.is_due ends.read ends.given ends.quiet code_is line
@@ -86,7 +92,7 @@ module _ (limits : Limits) (source : SourceRun) (out journal : SinkRun) (code : 
     answered = λ at. absurd (omega arith);
     read_fault = λ at. absurd (omega arith);
     write_fault = λ at. absurd (omega arith);
-    no_memory = λ at. line;
+    no_memory = λ at. record { given = parts ends.given; line = line };
     too_large = λ at. absurd (omega arith);
     read_faults = λ fault. absurd (fault ends.read);
     write_faults = λ fault. absurd (fault ends.written);

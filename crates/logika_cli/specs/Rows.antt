@@ -32,14 +32,23 @@ pub record FailedToRead (source : SourceRun) (out journal : SinkRun) : Type 0 wh
   pub given : GivesWhole out []
   pub line : GetsLine journal (Some read_fault_line)
 
--- 6: the output failed, and was given a front of what is due to it.
-pub record FailedToWrite (limits : Limits) (source : SourceRun) (out journal : SinkRun) : Type 0 where
+-- A front of the output was given.
+pub record GivesFrontOfOutput (limits : Limits) (source : SourceRun) (out : SinkRun) : Type 0 where
   pub text : List ℕ
   pub code : ℕ
   pub output : HasOutput limits source text code
-  pub fault : Rose out.before.faults out.now.faults
   pub given : GivesPart out text
+
+-- 6: the output failed, and was given a front of what is due to it.
+pub record FailedToWrite (limits : Limits) (source : SourceRun) (out journal : SinkRun) : Type 0 where
+  pub given : GivesFrontOfOutput limits source out
+  pub fault : Rose out.before.faults out.now.faults
   pub line : GetsLine journal (Some write_fault_line)
+
+-- 7: memory ran out. Nothing was given on the output, or a front of what is due to it.
+pub record RanOutOfMemory (limits : Limits) (source : SourceRun) (out journal : SinkRun) : Type 0 where
+  pub given : GivesPart out [] ⊎ GivesFrontOfOutput limits source out
+  pub line : GetsLine journal (Some no_memory_line)
 
 -- 8: the input, told where the source tells it, passes a limit. Nothing was given on the output.
 pub record WasTooLarge (limits : Limits) (source : SourceRun) (out journal : SinkRun) : Type 0 where
@@ -54,7 +63,7 @@ pub record Rows (limits : Limits) (source : SourceRun) (out journal : SinkRun) (
   pub answered : code ≤ 2 → Answered limits source out journal code
   pub read_fault : code ≡ 5 → FailedToRead source out journal
   pub write_fault : code ≡ 6 → FailedToWrite limits source out journal
-  pub no_memory : code ≡ 7 → GetsLine journal (Some no_memory_line)
+  pub no_memory : code ≡ 7 → RanOutOfMemory limits source out journal
   pub too_large : code ≡ 8 → WasTooLarge limits source out journal
   -- A fault is never passed over.
   pub read_faults : ¬ HasNoFault source → code ≡ 5
