@@ -1,6 +1,6 @@
 -- Expressions as trees over names of any kind, and their values. Claims of a program and terms of the prover are both read as
 -- such trees, so both mean the same.
-use Rattle.std.specs.Prelude.{ℕ, zero, suc, ℤ, pos, ◌+ℤ◌, ◌-ℤ◌, ◌*ℤ◌, neg_ℤ, List, Bool, not, ◌&&◌, ◌||◌, int_lt, int_le}
+use Rattle.std.specs.Prelude.{ℕ, zero, suc, ℤ, pos, ◌+ℤ◌, ◌-ℤ◌, ◌*ℤ◌, neg_ℤ, List, [], ◌∷◌, Bool, not, ◌&&◌, ◌||◌, int_lt, int_le}
 use Rattle.std.specs.List.{list_all, list_any}
 use Rattle.slang_values.specs.Number.{quotient, remainder, numbers_between}
 use Rattle.slang_values.specs.Value.{ValueType, Records, Value, number, truth, sequence, record_value, Values, no_values, value_then, number_of, truth_of, size_of, field_of, read, updated, appended, same_value}
@@ -94,3 +94,20 @@ abbrev mutual
   pub values : {A : Type 0} → Records → (A → Value) → Bounds → Trees A → Values
   values records names e no_trees = no_values
   values records names e (tree_then t ts) = value_then (value records names e t) (values records names e ts)
+
+-- ---- the parts of a tree, from the left
+
+abbrev pub tree_list : {A : Type 0} → Trees A → List (Tree A)
+tree_list no_trees = []
+tree_list (tree_then t ts) = t ∷ tree_list ts
+
+abbrev pub parts : {A : Type 0} → Tree A → List (Tree A)
+parts (literal z) = []
+parts (truth_literal b) = []
+parts (name a) = []
+parts (bound n) = []
+parts (unary op a) = a ∷ []
+parts (binary op a b) = a ∷ b ∷ []
+parts (update a i x) = a ∷ i ∷ x ∷ []
+parts (quantified q low high body) = low ∷ high ∷ body ∷ []
+parts (listed l ts) = tree_list ts

@@ -5,11 +5,11 @@ use Rattle.std.specs.Cmp.Lexicographic.{slice_cmp}
 use Rattle.std.proofs.lemmas.Cmp.{tied_itself}
 use Rattle.tree_forms.proofs.Ordered.{tree_cmp_total, node-Equal}
 use Rattle.slang_values.specs.Value.{ValueType, unit_type, number_type, truth_type, sequence_type, record_type}
-use Rattle.slang_values.specs.Tree.{Tree, literal, truth_literal, name, bound, unary, binary, update, quantified, listed, Trees, no_trees, tree_then, Listed, sequence_of, record_of}
+use Rattle.slang_values.specs.Tree.{Tree, literal, truth_literal, name, bound, unary, binary, update, quantified, listed, Trees, no_trees, tree_then, Listed, sequence_of, record_of, parts, tree_list}
 use Rattle.slang_values.specs.declared.operators.Unary.{Unary}
 use Rattle.slang_values.specs.declared.operators.Binary.{Binary}
 use Rattle.slang_values.specs.declared.operators.Quantifier.{Quantifier}
-use Rattle.tree_forms.specs.Order.{unary_kind, binary_kind, quantifier_kind, kind, unary_number, type_numbers, Head, head, head_cmp, Node, node, Nodes, no_nodes, node_then, node_length, nodes_of, all_nodes, node_of, nodes_cmp, tree_cmp, tree_list, parts}
+use Rattle.tree_forms.specs.Order.{unary_kind, binary_kind, quantifier_kind, kind, unary_number, type_numbers, Head, head, head_cmp, Node, node, Nodes, no_nodes, node_then, node_length, nodes_of, all_nodes, node_of, nodes_cmp, tree_cmp}
 
 -- ---- what a kind tells
 

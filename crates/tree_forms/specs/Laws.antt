@@ -6,9 +6,9 @@ use Rattle.std.specs.List.{AllByRecursion}
 use Rattle.std.specs.declared.cmp.Ordering.TheVariants.{Less, Equal}
 use Rattle.std.specs.Ordering.{ordering_then, nat_cmp}
 use Rattle.slang_values.specs.Value.{ValueType, number_type, Records, AreWellFormed, Value, number}
-use Rattle.slang_values.specs.Tree.{Tree, Bounds, value}
+use Rattle.slang_values.specs.Tree.{Tree, Bounds, value, parts}
 use Rattle.slang_values.specs.Typing.{NameTypes, IsTyped, FitNames}
-use Rattle.tree_forms.specs.Order.{head, head_cmp, parts, tree_cmp}
+use Rattle.tree_forms.specs.Order.{head, head_cmp, tree_cmp}
 use Rattle.tree_forms.specs.Canonical.{canonical}
 use Rattle.tree_forms.specs.Form.{FormPart, LinearForm, form, form_term, form_value}
 

@@ -153,20 +153,3 @@ abbrev mutual
 
 abbrev pub tree_cmp : Tree ℕ → Tree ℕ → Ordering
 tree_cmp s t = node_cmp (node_of s) (node_of t)
-
--- ---- the parts of a tree, from the left
-
-abbrev pub tree_list : Trees ℕ → List (Tree ℕ)
-tree_list no_trees = []
-tree_list (tree_then t ts) = t ∷ tree_list ts
-
-abbrev pub parts : Tree ℕ → List (Tree ℕ)
-parts (literal z) = []
-parts (truth_literal b) = []
-parts (name n) = []
-parts (bound n) = []
-parts (unary op a) = a ∷ []
-parts (binary op a b) = a ∷ b ∷ []
-parts (update a i x) = a ∷ i ∷ x ∷ []
-parts (quantified q low high body) = low ∷ high ∷ body ∷ []
-parts (listed l ts) = tree_list ts

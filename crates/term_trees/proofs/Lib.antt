@@ -1,0 +1,4 @@
+pub mod PartLists
+pub mod Sizes
+pub mod Sorts
+pub mod Trees
