@@ -117,7 +117,7 @@ pub cut-one : (row : Inequality) → cut row (pos 1) ≡ row
 cut-one row = ap₂ (λ (ps : List RowPart) (b : ℤ). let r : Inequality = record { parts = ps; bound = b } in r) (parts-cut_one row.parts) (floor-one row.bound)
 
 -- a row without parts stays as it is; any other is cut by a number that is at least 1 and divides its coefficients
-by_tightened : (P : Inequality → Type 0) (ps : List RowPart) (b : ℤ) → IsCanonical ps → (ps ≡ [] → P (record { parts = ps; bound = b })) → ((g : ℕ) → 0 < g → divides (pos g) ps ≡ true → P (cut (record { parts = ps; bound = b }) (pos g))) → P (tightened (record { parts = ps; bound = b }))
+pub by_tightened : (P : Inequality → Type 0) (ps : List RowPart) (b : ℤ) → IsCanonical ps → (ps ≡ [] → P (record { parts = ps; bound = b })) → ((g : ℕ) → 0 < g → divides (pos g) ps ≡ true → P (cut (record { parts = ps; bound = b }) (pos g))) → P (tightened (record { parts = ps; bound = b }))
 by_tightened P [] b r none some = none refl
 by_tightened P (p ∷ ps) b r none some = some (divisor (p ∷ ps)) (divisor_positive 0 p ps r) (divides-divisor (p ∷ ps))
 
