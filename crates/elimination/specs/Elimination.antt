@@ -91,12 +91,13 @@ chosen rows = first_of rows (variables rows)
 
 -- ---- the next rows
 
--- A lower and an upper row of a variable, so multiplied that it cancels: each by the other's coefficient, without the sign, both divided by what they have in common
+-- Two rows with the coefficients -a and b of one variable, so multiplied that it cancels: each by the other's, without its sign, both divided by what they have in common
+abbrev pub cancelled : ℕ → Inequality → ℕ → Inequality → Inequality
+cancelled a lower b upper = combined lower (pos (b / gcd a b)) upper (pos (a / gcd a b))
+
 abbrev pub combination : ℕ → Inequality → Inequality → Inequality
 combination v lower upper =
-    let a = unsigned_abs (coefficient lower.parts v) in
-    let b = unsigned_abs (coefficient upper.parts v) in
-    combined lower (pos (b / gcd a b)) upper (pos (a / gcd a b))
+    cancelled (unsigned_abs (coefficient lower.parts v)) lower (unsigned_abs (coefficient upper.parts v)) upper
 
 -- a combination within the limit is tightened and kept
 abbrev pub kept_with_sum : List Inequality → Inequality → Progress

@@ -152,6 +152,13 @@ tightened-cut row h = by_divisor row.parts row.bound h
     by_divisor [] b l = absurd (omega arith)
     by_divisor (p ∷ ps) b l = refl
 
+-- the divisor of a row within the limit is within it
+pub divisor_small : (low : ℕ) (ps : List RowPart) → RisesFrom low ps → are_small ps ≡ true → divisor ps ≤ 2 ^ 60
+divisor_small low [] r h = omega arith
+divisor_small low (p ∷ ps) r h =
+    let t = and_parts (is_small p.times) (are_small ps) h in
+    omega (arith, gcd_le (unsigned_abs p.times) (divisor ps) (abs_positive p.times r.1), leb-true (unsigned_abs p.times) (2 ^ 60) t.0)
+
 -- ---- the divisor, taken from the left
 pub divisor_more : (ps : List RowPart) (i : ℕ) (d : RowPart) (c all : ℕ) → i < length ps → gcd c (divisor (drop i ps)) ≡ all → gcd (gcd c (unsigned_abs (get_or ps i d).times)) (divisor (drop (i + 1) ps)) ≡ all
 divisor_more ps i d c all h e =
