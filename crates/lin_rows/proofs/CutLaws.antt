@@ -117,7 +117,7 @@ pub cut-one : (row : Inequality) → cut row (pos 1) ≡ row
 cut-one row = ap₂ (λ (ps : List RowPart) (b : ℤ). let r : Inequality = record { parts = ps; bound = b } in r) (parts-cut_one row.parts) (floor-one row.bound)
 
 -- a row without parts stays as it is; any other is cut by a number that is at least 1 and divides its coefficients
-by_tightened : (P : Inequality → Type 0) (ps : List RowPart) (b : ℤ) → IsCanonical ps → (ps ≡ [] → P (record { parts = ps; bound = b })) → ((g : ℕ) → 0 < g → divides (pos g) ps ≡ true → P (cut (record { parts = ps; bound = b }) (pos g))) → P (tightened (record { parts = ps; bound = b }))
+pub by_tightened : (P : Inequality → Type 0) (ps : List RowPart) (b : ℤ) → IsCanonical ps → (ps ≡ [] → P (record { parts = ps; bound = b })) → ((g : ℕ) → 0 < g → divides (pos g) ps ≡ true → P (cut (record { parts = ps; bound = b }) (pos g))) → P (tightened (record { parts = ps; bound = b }))
 by_tightened P [] b r none some = none refl
 by_tightened P (p ∷ ps) b r none some = some (divisor (p ∷ ps)) (divisor_positive 0 p ps r) (divides-divisor (p ∷ ps))
 
@@ -151,6 +151,13 @@ tightened-cut row h = by_divisor row.parts row.bound h
     by_divisor : (ps : List RowPart) (b : ℤ) → 1 < divisor ps → tightened (record { parts = ps; bound = b }) ≡ cut (record { parts = ps; bound = b }) (pos (divisor ps))
     by_divisor [] b l = absurd (omega arith)
     by_divisor (p ∷ ps) b l = refl
+
+-- the divisor of a row within the limit is within it
+pub divisor_small : (low : ℕ) (ps : List RowPart) → RisesFrom low ps → are_small ps ≡ true → divisor ps ≤ 2 ^ 60
+divisor_small low [] r h = omega arith
+divisor_small low (p ∷ ps) r h =
+    let t = and_parts (is_small p.times) (are_small ps) h in
+    omega (arith, gcd_le (unsigned_abs p.times) (divisor ps) (abs_positive p.times r.1), leb-true (unsigned_abs p.times) (2 ^ 60) t.0)
 
 -- ---- the divisor, taken from the left
 pub divisor_more : (ps : List RowPart) (i : ℕ) (d : RowPart) (c all : ℕ) → i < length ps → gcd c (divisor (drop i ps)) ≡ all → gcd (gcd c (unsigned_abs (get_or ps i d).times)) (divisor (drop (i + 1) ps)) ≡ all

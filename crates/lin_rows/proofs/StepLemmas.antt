@@ -1,6 +1,6 @@
 -- One step of the merge of two lists of parts, from places i and j on.
-use Rattle.std.proofs.Common.{◌≡◌, ◌↔◌, IsTrue, ◌≢◌, ℕ, zero, suc, ◌+◌, ◌<◌, ◌≤◌, Bool, true, false, List, [], ◌∷◌, ◌++◌, length, take, drop, get_or, slice_get, Some, append_assoc, add-one, ℤ, pos, ◌+ℤ◌, ◌*ℤ◌, ap, ap₂, sym, ◌∙◌, subst, arith}
-use Rattle.std.proofs.lemmas.Bool.{and_parts, and_right, false≢true}
+use Rattle.std.proofs.Common.{◌≡◌, ◌↔◌, IsTrue, ◌≢◌, ℕ, zero, suc, ◌+◌, ◌<◌, ◌≤◌, Bool, true, false, List, [], ◌∷◌, ◌++◌, length, take, drop, get_or, slice_get, Some, append_assoc, add-one, refl, ℤ, pos, ◌+ℤ◌, ◌*ℤ◌, ap, ap₂, sym, ◌∙◌, subst, arith}
+use Rattle.std.proofs.lemmas.Bool.{and_parts, and_from, and_left, and_right, false≢true}
 use Rattle.std.proofs.lemmas.List.{drop_more, drop_all}
 use Rattle.whole_numbers.proofs.Products.{nonzero_product}
 use Rattle.lin_rows.specs.declared.row.RowPart.{RowPart}
@@ -123,3 +123,26 @@ claimed_sum claimed a b p q cs left right r c e f bound h =
 pub claimed_bound_fails : (claimed a b : Inequality) (p q : ℤ) (r : Bool) → r ≡ false → (IsTrue r ↔ (claimed.bound ≡ p *ℤ a.bound +ℤ q *ℤ b.bound)) → IsTrue r ↔ (claimed ≡ combined a p b q)
 claimed_bound_fails claimed a b p q r e h =
     ((λ t. absurd (false≢true (sym e ∙ t))), (λ k. h.1 (ap (λ (x : Inequality). x.bound) k)))
+
+-- ---- the parts of a sum, made one by one
+small_parts-push : (ps : List RowPart) (part : RowPart) → are_small ps ≡ true → is_small part.times ≡ true → are_small (ps ++ part ∷ []) ≡ true
+small_parts-push [] part h s = and_from _ _ s refl
+small_parts-push (p ∷ ps) part h s =
+    let t = and_parts (is_small p.times) (are_small ps) h in and_from _ _ t.0 (small_parts-push ps part t.1 s)
+
+wide_within : (ps : List RowPart) (part : RowPart) (after : List RowPart) → is_small part.times ≡ false → are_small (ps ++ part ∷ after) ≡ false
+wide_within [] part after s = and_left _ _ s
+wide_within (p ∷ ps) part after s = and_right _ _ (wide_within ps part after s)
+
+-- a part beyond the limit makes the sum so
+pub sum_is_wide : (made sum left after : List RowPart) (part : RowPart) → made ++ left ≡ sum → left ≡ with_part part after → part.times ≢ pos 0 → is_small part.times ≡ false → are_small sum ≡ false
+sum_is_wide made sum left after part e f nz s =
+    ap are_small (sym e ∙ ap (λ (ps : List RowPart). made ++ ps) (f ∙ with_part-nonzero part after nz)) ∙ wide_within made part after s
+
+-- one more part is made
+pub sum_goes_on : (made sum left after : List RowPart) (part : RowPart) → made ++ left ≡ sum → left ≡ with_part part after → part.times ≢ pos 0 → (made ++ part ∷ []) ++ after ≡ sum
+sum_goes_on made sum left after part e f nz =
+    append_assoc made (part ∷ []) after ∙ ap (λ (ps : List RowPart). made ++ ps) (sym (f ∙ with_part-nonzero part after nz)) ∙ e
+
+pub small_parts_go_on : (made : List RowPart) (part : RowPart) → are_small made ≡ true → is_small part.times ≡ true → are_small (made ++ part ∷ []) ≡ true
+small_parts_go_on made part h s = small_parts-push made part h s

@@ -16,6 +16,10 @@ use whole_numbers::greatest_common_divisor;
 pub fn divisor(row: &Row) -> u128
     ensures value { result ≡ cut_specs.divisor row.now.parts }
     ensures most { result ≤ 2 ^ 127 }
+    ensures same { result ≤ 1 → cut_specs.tightened row.now ≡ row.now }
+    ensures cut { 1 < result → cut_specs.tightened row.now ≡ cut_specs.cut row.now (pos result) }
+    ensures divides { IsTrue (cut_specs.divides (pos result) row.now.parts) }
+    ensures small { IsTrue (row_specs.is_within row.now) → result ≤ 2 ^ 60 }
 {
     divisor_of_parts(&row.parts)
 }

@@ -134,7 +134,7 @@ fn combine_parts(
     ensures wide { IsErrOf result RowEnd.Wide → row_specs.are_small (sum_of_parts left.now p right.now q) ≡ false }
 {
     let total = left.len() + right.len();
-    let mut parts = Vec::new(alloc);
+    let mut parts = Vec::with_capacity(alloc, total)?;
     let mut i = 0;
     let mut j = 0;
     'parts: while i + j < total {
