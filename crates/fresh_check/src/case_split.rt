@@ -92,8 +92,8 @@ fn both(
     lefts: Vec<Items<Term>>,
     rights: &[Items<Term>],
 ) -> Result<Vec<Items<Term>>, SplitEnd>
-    requires lefts { vec_len lefts ≤ 512 }
-    requires rights { length rights.now ≤ 512 }
+    requires lefts { vec_len lefts ≤ CASE_LIMIT }
+    requires rights { length rights.now ≤ CASE_LIMIT }
     ensures ok { IfOk result (λ it. AreCases (case_trees it.items) (both (case_trees lefts.items) (case_trees rights.now))) }
     ensures err { IfErr result (λ end. IsSplitEnd end (both (case_trees lefts.items) (case_trees rights.now))) }
 {
@@ -111,8 +111,8 @@ fn both(
 
 /// The cases in which one of the left or one of the right holds.
 fn either(lefts: Vec<Items<Term>>, rights: Vec<Items<Term>>) -> Result<Vec<Items<Term>>, SplitEnd>
-    requires lefts { vec_len lefts ≤ 512 }
-    requires rights { vec_len rights ≤ 512 }
+    requires lefts { vec_len lefts ≤ CASE_LIMIT }
+    requires rights { vec_len rights ≤ CASE_LIMIT }
     ensures ok { IfOk result (λ it. AreCases (case_trees it.items) (case_trees lefts.items ++ case_trees rights.items)) }
     ensures err { IfErr result (λ end. IsSplitEnd end (case_trees lefts.items ++ case_trees rights.items)) }
 {
