@@ -155,17 +155,17 @@ false_from_not : (b : Bool) → (b ≡ true → ⊥) → b ≡ false
 false_from_not true h = absurd (h refl)
 false_from_not false h = refl
 
--- where a literal and others are true, its negation is none of the others
+-- where a literal and others are true, it is the negation of none of the others
 no_negation : (values : ℕ → Bool) (literal : TermTree) (others : List TermTree) → term_value values literal ≡ true → list_all (term_value values) others ≡ true
-    → list_any (λ other. same_tree other (negation literal)) others ≡ false
+    → list_any (λ other. same_tree literal (negation other)) others ≡ false
 no_negation values literal [] holds all = refl
 no_negation values literal (other ∷ others) holds all =
     neither _ _
-    (false_from_not _ (λ same. false≢true (ap not (sym holds) ∙ sym (same_tree-value values other (negation literal) same) ∙ and_left _ _ all)))
+    (false_from_not _ (λ same. false≢true (ap not (sym (and_left _ _ all)) ∙ sym (same_tree-value values literal (negation other) same) ∙ holds)))
     (no_negation values literal others holds (and_right (term_value values other) _ all))
 
 not_closed : (values : ℕ → Bool) (literals all : List TermTree) → list_all (term_value values) literals ≡ true → list_all (term_value values) all ≡ true
-    → list_any (λ literal. is_false_literal literal || list_any (λ other. same_tree other (negation literal)) all) literals ≡ false
+    → list_any (λ literal. is_false_literal literal || list_any (λ other. same_tree literal (negation other)) all) literals ≡ false
 not_closed values [] all here there = refl
 not_closed values (literal ∷ literals) all here there =
     neither _ _

@@ -67,3 +67,10 @@ pub right_too_many : (end : SplitEnd) (holds : Bool) (left right : TermTree) →
 right_too_many ends.Cases true left right h = subst (λ n. case_limit < n) (sym (length-both (cases_of true left) (cases_of true right))) (grows_left _ _ (some_case true left) h)
 right_too_many ends.Cases false left right h = omega (arith, length-append (cases_of false left) (cases_of false right), h)
 right_too_many ends.NoMemory holds left right h = tt
+
+-- literals behind each case are one case on the right
+pub case_trees-more : (cases : List (List Term)) (literals : List Term) → case_trees (map (λ case. case ++ literals) cases) ≡ both (case_trees cases) (trees literals ∷ [])
+case_trees-more [] literals = refl
+case_trees-more (case ∷ cases) literals =
+    ap (λ c. c ∷ case_trees (map (λ d. d ++ literals) cases)) (map-append term_tree case literals)
+    ∙ ap (λ cs. (trees case ++ trees literals) ∷ cs) (case_trees-more cases literals)

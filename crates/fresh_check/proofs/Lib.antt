@@ -5,6 +5,7 @@ pub mod LegLaws
 pub mod LegSteps
 pub mod LegTrees
 pub mod Lists
+pub mod Negations
 pub mod NodeLaws
 pub mod OutputLaws
 pub mod RunLaws

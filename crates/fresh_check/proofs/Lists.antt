@@ -44,3 +44,8 @@ list_any-next test f xs i x within is before here =
     ∙ ap (list_any test) (map-append f (take i xs) (x ∷ []))
     ∙ list_any-append test (map f (take i xs)) (f x ∷ [])
     ∙ neither _ _ before (neither _ _ here refl)
+
+pub one_element : {X : Type 0} (xs : List X) (x : X) → length xs ≡ 1 → x ≡ get_or xs 0 x → xs ≡ x ∷ []
+one_element [] x one is = absurd (omega arith)
+one_element (y ∷ []) x one is = ap (λ z. z ∷ []) (sym is)
+one_element (y ∷ z ∷ xs) x one is = absurd (omega arith)

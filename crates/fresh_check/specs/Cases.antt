@@ -27,5 +27,8 @@ cases_of_all [] = [] ∷ []
 cases_of_all (hypothesis ∷ hypotheses) = both (cases_of true hypothesis) (cases_of_all hypotheses)
 
 -- The hypotheses are the facts and the negated goal.
+abbrev pub hypotheses : SequentTree → List TermTree
+hypotheses sequent = sequent.facts ++ negation sequent.goal ∷ []
+
 abbrev pub cases : SequentTree → List (List TermTree)
-cases sequent = cases_of_all (sequent.facts ++ negation sequent.goal ∷ [])
+cases sequent = cases_of_all (hypotheses sequent)

@@ -23,7 +23,7 @@ is_false_literal term = false
 -- A list of literals is closed by F or Not T, or by a literal and its negation.
 abbrev pub is_closed_case : List TermTree → Bool
 is_closed_case literals =
-    list_any (λ literal. is_false_literal literal || list_any (λ other. same_tree other (negation literal)) literals) literals
+    list_any (λ literal. is_false_literal literal || list_any (λ other. same_tree literal (negation other)) literals) literals
 
 -- the most cases that a sequent may have
 abbrev pub case_limit : ℕ

@@ -30,24 +30,38 @@ impl From<SplitEnd> for ProveEnd {
     }
 }
 
-/// Whether the negation of a literal is in a list.
-fn has_negation(literals: &[Term], literal: &Term) -> bool
-    ensures { result ≡ list_any (λ other. same_tree other (negation (term_tree literal.now))) (trees literals.now) }
+/// Whether a list has a term.
+fn has(literals: &[Term], term: &Term) -> bool
+    ensures { result ≡ list_any (λ other. same_tree (term_tree term.now) other) (trees literals.now) }
 {
     for other in literals {
-        if other.negates(literal) {
+        if term.same(other) {
             return true;
         }
     }
     false
 }
 
-/// Whether a literal is false, or its negation is in the list.
+/// Whether a literal is the negation of one in a list.
+#[tactic(auto, using(crate::proofs::TermTrees::terms_by_variant))]
+fn negates_one(literal: &Term, literals: &[Term]) -> bool
+    ensures { result ≡ list_any (λ other. same_tree (term_tree literal.now) (negation other)) (trees literals.now) }
+{
+    match literal {
+        Term::True => false,
+        Term::False => false,
+        Term::Symbol(_) => false,
+        Term::Not(term) => has(literals, term.get()),
+        Term::And(_, _) => false,
+    }
+}
+
+/// Whether a literal is false, or is the negation of one in the list.
 fn closes(literals: &[Term], literal: &Term) -> bool
     ensures { result ≡ (is_false_literal (term_tree literal.now)
-        || list_any (λ other. same_tree other (negation (term_tree literal.now))) (trees literals.now)) }
+        || list_any (λ other. same_tree (term_tree literal.now) (negation other)) (trees literals.now)) }
 {
-    literal.is_false_literal() || has_negation(literals, literal)
+    literal.is_false_literal() || negates_one(literal, literals)
 }
 
 /// Whether the literals of a case contradict each other.

@@ -4,12 +4,19 @@ ghost use Rattle.fresh_check.specs.Closing.{closed, closing};
 ghost use Rattle.fresh_check.specs.Output.{HasProgram, IsOutput, NamesNodeOf, VerifiedIsSafe};
 ghost use Rattle.fresh_check.specs.Verdicts.{verdict};
 ghost use Rattle.lk_ast.specs.ProgramTree.{MethodTree, ProgramTree};
-ghost use Rattle.std.specs.List.{All};
+ghost use Rattle.std.specs.List.{All, list_all, list_any};
 ghost use Rattle.fresh_check.specs.Runs.{more, run};
 ghost use Rattle.fresh_check.specs.TermTree.{SequentTree};
-ghost use Rattle.fresh_check.specs.Validity.{IsValid};
+ghost use Rattle.fresh_check.specs.Validity.{IsValid, term_value};
+ghost use Rattle.fresh_check.specs.Cases.{cases, hypotheses};
 
 use slang_parser::reads_one_tree;
+
+/// Whatever the symbols stand for, some case of a sequent is true exactly where all of its hypotheses are.
+pub fn cases_hold()
+    ensures { (values : ℕ → Bool) (sequent : SequentTree) →
+        list_any (λ case. list_all (term_value values) case) (cases sequent) ≡ list_all (term_value values) (hypotheses sequent) }
+{}
 
 /// What is closed is valid.
 pub fn closed_is_valid()

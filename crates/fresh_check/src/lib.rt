@@ -15,7 +15,9 @@ mod verdicts;
 pub use auto_prove::{ProveEnd, prove};
 pub use case_split::{Leaves, SplitEnd, cases};
 pub use check::{Checked, check_plain, check_text};
-pub use laws::{closed_is_valid, more_turns, one_output, reported_nodes, verified_is_safe};
+pub use laws::{
+    cases_hold, closed_is_valid, more_turns, one_output, reported_nodes, verified_is_safe,
+};
 pub use leg_check::answer_leg;
 pub use legs::legs_of;
 pub use report::{Line, Report, fault_text, report_text};

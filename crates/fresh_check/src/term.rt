@@ -106,20 +106,6 @@ impl Term {
             Term::And(_, _) => false,
         }
     }
-
-    /// Whether this term is the negation of another.
-    #[tactic(auto, using(crate::proofs::TermTrees::terms_by_variant))]
-    pub fn negates(&self, other: &Term) -> bool
-        ensures { result ≡ same_tree (term_tree self.now) (negation (term_tree other.now)) }
-    {
-        match self {
-            Term::True => false,
-            Term::False => false,
-            Term::Symbol(_) => false,
-            Term::Not(term) => term.get().same(other),
-            Term::And(_, _) => false,
-        }
-    }
 }
 
 /// Adds copies of terms at the end of a list.

@@ -8,12 +8,12 @@ use Rattle.fresh_check.proofs.auto_prove.is_closed.Goals as goal
 
 pub returns-then-closes : goal.returns-then-closes
 returns-then-closes c =
-    sym (list_any-at (λ literal. is_false_literal literal || list_any (λ other. same_tree other (negation literal)) (trees c.args.literals.now)) term_tree
+    sym (list_any-at (λ literal. is_false_literal literal || list_any (λ other. same_tree literal (negation other)) (trees c.args.literals.now)) term_tree
     c.args.literals.now c.loop-literal.literal-index c.literal-item.result
     c.loop-literal-test.true c.literal-item.is (sym c.closes.ensures ∙ c.if-closes.true))
 
 pub loop-literal-preserved : goal.loop-literal-preserved
 loop-literal-preserved c =
-    list_any-next (λ literal. is_false_literal literal || list_any (λ other. same_tree other (negation literal)) (trees c.args.literals.now)) term_tree
+    list_any-next (λ literal. is_false_literal literal || list_any (λ other. same_tree literal (negation other)) (trees c.args.literals.now)) term_tree
     c.args.literals.now c.loop-literal.literal-index c.literal-item.result
     c.loop-literal-test.true c.literal-item.is c.loop-literal.invariant (sym c.closes.ensures ∙ c.if-closes.false)

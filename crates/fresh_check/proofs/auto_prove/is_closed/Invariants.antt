@@ -7,4 +7,4 @@ use Rattle.fresh_check.proofs.auto_prove.is_closed.Given as goal
 
 abbrev pub invariant-loop-literal : goal.invariant-loop-literal
 invariant-loop-literal l =
-    list_any (λ literal. is_false_literal literal || list_any (λ other. same_tree other (negation literal)) (trees l.literals)) (trees (take l.literal-index l.literals)) ≡ false
+    list_any (λ literal. is_false_literal literal || list_any (λ other. same_tree literal (negation other)) (trees l.literals)) (trees (take l.literal-index l.literals)) ≡ false

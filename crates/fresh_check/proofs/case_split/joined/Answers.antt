@@ -12,7 +12,7 @@ loop-left-preserved c =
     let so_far = take c.loop-left.left-index c.args.lefts.now in
     let with_each = λ (left : List Term). map (λ (right : List Term). left ++ right) c.args.rights.now in
     c.in_ok-add_joined.ensures
-    ∙ ap (λ left. c.loop-left.joined ++ with_each left) c.as_slice.ensures
+    ∙ ap (λ left. c.loop-left.joined.items ++ with_each left) c.as_slice.ensures
     ∙ ap (λ joined. joined ++ with_each c.left-item.result) c.loop-left.invariant
     ∙ sym (flat_map-push with_each so_far c.left-item.result)
     ∙ ap (flat_map with_each) (sym (take_next c.args.lefts.now c.loop-left.left-index c.left-item.result c.loop-left-test.true c.left-item.is))
