@@ -49,36 +49,38 @@ fn run<R>(
 
 // The source has two newlines, so the third take is its end. The output has 32 bytes, so its twelfth call is its flush,
 // and the journal's third.
+static FAILING: [(Fails, &str); 15] = [
+    (
+        (NEVER, NEVER, NEVER),
+        "0|revision 1\nmethods 0 verified 0\n|",
+    ),
+    ((NEVER, NEVER, 1), "0|revision 1\nmethods 0 verified 0\n|"),
+    ((1, NEVER, NEVER), "5||logika: read fault\n"),
+    ((2, NEVER, NEVER), "5||logika: read fault\n"),
+    ((3, 1, NEVER), "5||logika: read fault\n"),
+    ((4, NEVER, NEVER), "0|revision 1\nmethods 0 verified 0\n|"),
+    ((NEVER, 1, NEVER), "6||logika: write fault\n"),
+    ((NEVER, 2, NEVER), "6|rev|logika: write fault\n"),
+    (
+        (NEVER, 11, NEVER),
+        "6|revision 1\nmethods 0 verified |logika: write fault\n",
+    ),
+    (
+        (NEVER, 12, NEVER),
+        "6|revision 1\nmethods 0 verified 0\n|logika: write fault\n",
+    ),
+    ((NEVER, 13, NEVER), "0|revision 1\nmethods 0 verified 0\n|"),
+    ((1, NEVER, 1), "5||"),
+    ((1, NEVER, 2), "5||logika: re"),
+    ((1, NEVER, 3), "5||logika: read fault\n"),
+    ((NEVER, 2, 2), "6|rev|logika: wr"),
+];
+
 #[test]
 fn each_failing_call_has_its_status(rt: HostRuntime) -> Result<(), Fail> {
-    for (fails, left) in [
-        (
-            (NEVER, NEVER, NEVER),
-            "0|revision 1\nmethods 0 verified 0\n|",
-        ),
-        ((NEVER, NEVER, 1), "0|revision 1\nmethods 0 verified 0\n|"),
-        ((1, NEVER, NEVER), "5||logika: read fault\n"),
-        ((2, NEVER, NEVER), "5||logika: read fault\n"),
-        ((3, 1, NEVER), "5||logika: read fault\n"),
-        ((4, NEVER, NEVER), "0|revision 1\nmethods 0 verified 0\n|"),
-        ((NEVER, 1, NEVER), "6||logika: write fault\n"),
-        ((NEVER, 2, NEVER), "6|rev|logika: write fault\n"),
-        (
-            (NEVER, 11, NEVER),
-            "6|revision 1\nmethods 0 verified |logika: write fault\n",
-        ),
-        (
-            (NEVER, 12, NEVER),
-            "6|revision 1\nmethods 0 verified 0\n|logika: write fault\n",
-        ),
-        ((NEVER, 13, NEVER), "0|revision 1\nmethods 0 verified 0\n|"),
-        ((1, NEVER, 1), "5||"),
-        ((1, NEVER, 2), "5||logika: re"),
-        ((1, NEVER, 3), "5||logika: read fault\n"),
-        ((NEVER, 2, 2), "6|rev|logika: wr"),
-    ] {
-        let run = run(&rt, rt.alloc(), "check", b"\n\n", fails)?;
-        assert_eq!(rt; run.as_str(), left, "{fails:?}");
+    for (fails, left) in FAILING.iter() {
+        let run = run(&rt, rt.alloc(), "check", b"\n\n", *fails)?;
+        assert_eq!(rt; run.as_str(), *left);
     }
     Ok(())
 }

@@ -9,7 +9,7 @@ use Rattle.logika_cli.specs.Check.{IsDueOfCheck, checked, too_large, check_comma
 use Rattle.fresh_check.proofs.OutputLaws.{verified_is_safe}
 use Rattle.logika_cli.specs.Rows.{Rows, GivesFrontOfOutput}
 use Rattle.logika_cli.specs.declared.limits.Limits.{Limits}
-use Rattle.logika_cli.proofs.LimitLaws.{past_or_within}
+use Rattle.logika_cli.proofs.LimitLaws.{past_or_within, one_line}
 
 -- A told input is the one that is told.
 told_is : {left : Option (List ℕ)} (input told : List ℕ) → left ≡ Some told → Tells left input → told ≡ input
@@ -19,6 +19,7 @@ module _ (limits : Limits) (source : SourceRun) (out journal : SinkRun) (code : 
   rows-due : {input : List ℕ} {due : Due} → Tells source.before.left input → IsDueOfCheck limits input due → HasNoFault source → Appends out due.text → IsQuiet out
       → code ≡ due.code → GetsLine journal due.line → Rows limits source out journal code
   rows-due {input} told (checked {text} {code = c} within output small) read given quiet code_is line = record {
+    only = inl (omega arith);
     answered = λ at. record {
       text = text;
       output = record { input = input; told = told; within = within; output = rw (sym code_is) at output; safe = verified_is_safe input };
@@ -35,6 +36,7 @@ module _ (limits : Limits) (source : SourceRun) (out journal : SinkRun) (code : 
     past = λ told_input line_no is passes read'. absurd (past_or_within passes (rw (told_is input told_input is told) within));
   }
   rows-due {input} told (too_large {line = line_no} passes) read given quiet code_is line = record {
+    only = inr (omega arith, omega arith);
     answered = λ at. absurd (omega arith);
     read_fault = λ at. absurd (omega arith);
     write_fault = λ at. absurd (omega arith);
@@ -43,12 +45,15 @@ module _ (limits : Limits) (source : SourceRun) (out journal : SinkRun) (code : 
     read_faults = λ fault. absurd (fault read);
     write_faults = λ fault. absurd (fault quiet.faults);
     within = λ told_input is w read' written. absurd (past_or_within passes (rw (sym (told_is input told_input is told)) w));
-    past = λ told_input line' is passes' read'. inl code_is;
+    past = λ told_input line' is passes' read'.
+        let same : line' ≡ line_no = one_line (rw (told_is input told_input is told) at passes') passes in
+        inl (code_is, rw same line);
   }
 
   rows-write : {input : List ℕ} {due : Due} → Tells source.before.left input → IsDueOfCheck limits input due → (due.line ≡ None) ⊎ (due.text ≢ []) → HasNoFault source
       → GivesPart out due.text → IsFault out → code ≡ 6 → GetsLine journal (Some write_fault_line) → Rows limits source out journal code
   rows-write {input} told (checked {text} {code = c} within output small) writes read given fault code_is line = record {
+    only = inr (omega arith, omega arith);
     answered = λ at. absurd (omega arith);
     read_fault = λ at. absurd (omega arith);
     write_fault = λ at. record {
@@ -77,6 +82,7 @@ module _ (limits : Limits) (source : SourceRun) (out journal : SinkRun) (code : 
   rows : (end : End) → EndsBy (check_command limits) source out end → code ≡ code_of end → GetsLine journal (line_of end) → Rows limits source out journal code
   rows (as_due due) ends code_is line = rows-due ends.is_due.told ends.is_due.is_due ends.read ends.given ends.quiet code_is line
   rows read_fault ends code_is line = record {
+    only = inr (omega arith, omega arith);
     answered = λ at. absurd (omega arith);
     read_fault = λ at. record { fault = ends.fault; given = record { adds = rw ends.earlier at ends.given; quiet = ends.quiet }; line = line };
     write_fault = λ at. absurd (omega arith);
@@ -89,6 +95,7 @@ module _ (limits : Limits) (source : SourceRun) (out journal : SinkRun) (code : 
   }
   rows write_fault ends code_is line = rows-write ends.is_due.told ends.is_due.is_due ends.writes ends.read ends.given ends.fault code_is line
   rows no_memory ends code_is line = record {
+    only = inr (omega arith, omega arith);
     answered = λ at. absurd (omega arith);
     read_fault = λ at. absurd (omega arith);
     write_fault = λ at. absurd (omega arith);

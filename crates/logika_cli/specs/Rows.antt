@@ -59,17 +59,20 @@ pub record WasTooLarge (limits : Limits) (source : SourceRun) (out journal : Sin
   pub given : GivesWhole out []
   pub line : GetsLine journal (Some (too_large_line line_no))
 
+-- The rows of `check`.
 pub record Rows (limits : Limits) (source : SourceRun) (out journal : SinkRun) (code : ℕ) : Type 0 where
+  -- no other status comes
+  pub only : (code ≤ 2) ⊎ ((5 ≤ code) × (code ≤ 8))
   pub answered : code ≤ 2 → Answered limits source out journal code
   pub read_fault : code ≡ 5 → FailedToRead source out journal
   pub write_fault : code ≡ 6 → FailedToWrite limits source out journal
   pub no_memory : code ≡ 7 → RanOutOfMemory limits source out journal
   pub too_large : code ≡ 8 → WasTooLarge limits source out journal
-  -- A fault is never passed over.
+  -- a fault is never passed over
   pub read_faults : ¬ HasNoFault source → code ≡ 5
   pub write_faults : out.now.faults ≢ out.before.faults → code ≡ 6
-  -- Where no count has risen the status is the one that is due, or memory ran out.
+  -- where no count has risen the status is the one that is due, or memory ran out
   pub within : (input : List ℕ) → source.before.left ≡ Some input → IsWithin limits input
       → ¬ Rose source.before.faults source.now.faults → ¬ Rose out.before.faults out.now.faults → (code ≤ 2) ⊎ (code ≡ 7)
   pub past : (input : List ℕ) (line : ℕ) → source.before.left ≡ Some input → PassesIn limits input line
-      → ¬ Rose source.before.faults source.now.faults → (code ≡ 8) ⊎ (code ≡ 7)
+      → ¬ Rose source.before.faults source.now.faults → ((code ≡ 8) × GetsLine journal (Some (too_large_line line))) ⊎ (code ≡ 7)
