@@ -9,6 +9,7 @@ pub data ClaimTree : Type 0 where
   variable : (number : ℕ) → ClaimTree
   negation : (claim : ClaimTree) → ClaimTree
   conjunction : (left right : ClaimTree) → ClaimTree
+  disjunction : (left right : ClaimTree) → ClaimTree
 
 -- one level of a claim, with the trees of its parts
 abbrev pub claim_level : c.Claim-F ClaimTree → ClaimTree
@@ -17,6 +18,7 @@ claim_level c.False = falsity
 claim_level (c.Var number) = variable number
 claim_level (c.Not claim) = negation claim
 claim_level (c.And left right) = conjunction left right
+claim_level (c.Or left right) = disjunction left right
 
 abbrev pub claim_tree : Claim → ClaimTree
 claim_tree claim = fold-Claim ClaimTree claim_level claim

@@ -9,10 +9,12 @@ use Rattle.lk_ast.specs.declared.check.Item.TheVariants as items
 pub data ItemTree : Type 0 where
   assume : (claim : ClaimTree) → ItemTree
   check : (kind : Kind) (claim : ClaimTree) → ItemTree
+  set : (variable : ℕ) (claim : ClaimTree) → ItemTree
 
 abbrev pub item_tree : Item → ItemTree
 item_tree (items.Assume claim) = assume (claim_tree claim)
 item_tree (items.Check kind claim) = check kind (claim_tree claim)
+item_tree (items.Set variable claim) = set variable (claim_tree claim)
 
 -- an item, and the number of the node beside it
 pub record NotedItem : Type 0 where

@@ -5,6 +5,8 @@ use Rattle.lk_ast.specs.declared.typed.Ty.{Ty}
 use Rattle.lk_ast.specs.declared.typed.FieldTy.{FieldTy}
 use Rattle.lk_ast.specs.declared.typed.Noted.{Noted}
 use Rattle.lk_ast.specs.declared.typed.NodePlace.{NodePlace}
+use Rattle.lk_ast.specs.declared.typed.Code.{Code}
+use Rattle.lk_ast.specs.declared.typed.Code.TheVariants as codes
 use Rattle.lk_ast.specs.declared.typed.Method.{Method}
 use Rattle.lk_ast.specs.declared.typed.Typed.{Typed}
 
@@ -13,7 +15,12 @@ pub record NotedTree : Type 0 where
   pub claim : ClaimTree
   pub node : ℕ
 
--- a method with its contract; its variables are its parameters, numbered in order
+-- A statement: a variable gets a value, or a claim is to hold. A return gives the method's result its value.
+pub data CodeTree : Type 0 where
+  set : (node variable : ℕ) (value : ClaimTree) → CodeTree
+  assert : (noted : NotedTree) → CodeTree
+
+-- a method with its contract and its body; its variables are its parameters, its `val`s and its result, numbered in order
 pub record MethodTree : Type 0 where
   pub name : List ℕ
   pub node : ℕ
@@ -21,6 +28,8 @@ pub record MethodTree : Type 0 where
   pub result : Ty
   pub requires_ : List NotedTree
   pub ensures_ : List NotedTree
+  pub locals : List Ty
+  pub body : List CodeTree
 
 -- the methods in the order of their names, and the place of each node
 pub record ProgramTree : Type 0 where
@@ -30,6 +39,11 @@ pub record ProgramTree : Type 0 where
 abbrev pub noted_tree : Noted → NotedTree
 noted_tree noted = record { claim = claim_tree noted.claim; node = noted.node.0 }
 
+abbrev pub code_tree : Code → CodeTree
+code_tree (codes.Val node variable value) = set node.0 variable (claim_tree value)
+code_tree (codes.Assert noted) = assert (noted_tree noted)
+code_tree (codes.Return node result value) = set node.0 result (claim_tree value)
+
 abbrev pub method_tree : Method → MethodTree
 method_tree method = record {
   name = method.name;
@@ -38,6 +52,8 @@ method_tree method = record {
   result = method.result;
   requires_ = map noted_tree method.requires_;
   ensures_ = map noted_tree method.ensures_;
+  locals = method.locals;
+  body = map code_tree method.body;
 }
 
 abbrev pub program_tree : Typed → ProgramTree

@@ -45,6 +45,8 @@ pub enum Item {
     Assume(Claim),
     /// The claim is to be shown, and holds from here on.
     Check(Kind, Claim),
+    /// The variable has the value of the claim from here on.
+    Set(u32, Claim),
 }
 
 /// One straight path through a method, over variables of these types.

@@ -10,5 +10,5 @@ mod typed;
 
 pub use check::{Answer, Item, Kind, Leg, Legs, Reason};
 pub use text::Text;
-pub use tree::{Decl, Expr, Fault, File, MethodDecl, Name, Param, Place, TypeName};
-pub use typed::{Claim, FieldTy, Method, NodeNo, NodePlace, Noted, Ty, Typed};
+pub use tree::{Decl, Expr, Fault, File, MethodDecl, Name, Param, Place, Return, Stmt, TypeName};
+pub use typed::{Claim, Code, FieldTy, Method, NodeNo, NodePlace, Noted, Ty, Typed};

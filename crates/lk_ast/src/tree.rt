@@ -34,7 +34,8 @@ pub enum Decl {
     Method(MethodDecl),
 }
 
-/// `def name(params): result = { Contract(Requires(requires), Ensures(ensures)) }`. A part that is left out has no members.
+/// `def name(params): result = { Contract(Requires(requires), Ensures(ensures)) body returned }`. A list that is left out
+/// has no members.
 #[derive(Drop)]
 pub struct MethodDecl {
     pub name: Name,
@@ -42,6 +43,32 @@ pub struct MethodDecl {
     pub result: TypeName,
     pub requires_: Items<Expr>,
     pub ensures_: Items<Expr>,
+    pub body: Items<Stmt>,
+    pub returned: Option<Return>,
+}
+
+/// A statement. The place is that of its first token.
+#[derive(Drop)]
+pub enum Stmt {
+    /// `val name: ty = value`, where the type may be left out.
+    Val {
+        place: Place,
+        name: Name,
+        ty: Option<TypeName>,
+        value: Expr,
+    },
+    /// `assert(claim)`.
+    Assert {
+        place: Place,
+        claim: Expr,
+    },
+}
+
+/// `return value`. The place is that of the word.
+#[derive(Drop)]
+pub struct Return {
+    pub place: Place,
+    pub value: Expr,
 }
 
 /// `name: ty`.
@@ -58,12 +85,16 @@ pub enum TypeName {
     Unit(Place),
 }
 
-/// An expression. The place is that of the first token, and of a binary expression that of its left operand.
+/// An expression. The place is that of the first token, and of a binary expression that of its left operand. Round
+/// brackets leave nothing in the tree, and the place of what they hold is its own.
 #[derive(Drop)]
 pub enum Expr {
     True(Place),
     False(Place),
     Name(Name),
+    /// `Res`, the result of the method.
+    Res(Place),
     Not(Place, Boxed<Expr>),
     And(Place, Boxed<Expr>, Boxed<Expr>),
+    Or(Place, Boxed<Expr>, Boxed<Expr>),
 }

@@ -31,6 +31,7 @@ pub enum Claim {
     Var(u32),
     Not(Boxed<Claim>),
     And(Boxed<Claim>, Boxed<Claim>),
+    Or(Boxed<Claim>, Boxed<Claim>),
 }
 
 impl Claim {
@@ -44,6 +45,10 @@ impl Claim {
             Claim::Var(number) => Ok(Claim::Var(*number)),
             Claim::Not(claim) => Ok(Claim::Not(Boxed::new(alloc, claim.get().copy(alloc)?)?)),
             Claim::And(left, right) => Ok(Claim::And(
+                Boxed::new(alloc, left.get().copy(alloc)?)?,
+                Boxed::new(alloc, right.get().copy(alloc)?)?,
+            )),
+            Claim::Or(left, right) => Ok(Claim::Or(
                 Boxed::new(alloc, left.get().copy(alloc)?)?,
                 Boxed::new(alloc, right.get().copy(alloc)?)?,
             )),
@@ -64,7 +69,27 @@ pub struct NodePlace {
     pub place: Place,
 }
 
-/// A method with its contract. Its variables are its parameters, numbered in order.
+/// A statement over the variables of its method.
+#[derive(Drop)]
+pub enum Code {
+    /// The variable has this value from here on.
+    Val {
+        node: NodeNo,
+        variable: u32,
+        value: Claim,
+    },
+    /// The claim is to hold here.
+    Assert(Noted),
+    /// The method ends, and its result, which is the variable of this number, is the value.
+    Return {
+        node: NodeNo,
+        result: u32,
+        value: Claim,
+    },
+}
+
+/// A method with its contract and its body. Its variables are numbered: first its parameters and then its `val`s, in the
+/// order of the text, whose types are `locals`, and last its result.
 #[derive(Drop)]
 pub struct Method {
     pub name: Text,
@@ -73,6 +98,8 @@ pub struct Method {
     pub result: Ty,
     pub requires_: Items<Noted>,
     pub ensures_: Items<Noted>,
+    pub locals: Items<Ty>,
+    pub body: Items<Code>,
 }
 
 /// A program: its methods in the order of their names, and the place of each node.
