@@ -1,15 +1,3 @@
-pub mod CaseLaws
-pub mod CaseTrees
-pub mod FactCases
-pub mod LegLaws
-pub mod LegSteps
-pub mod LegTrees
-pub mod Lists
-pub mod Negations
 pub mod NodeLaws
 pub mod OutputLaws
-pub mod RunLaws
-pub mod TermTrees
 pub mod TextLaws
-pub mod VerdictLaws
-pub mod VerdictTrees

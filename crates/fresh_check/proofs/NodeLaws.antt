@@ -18,14 +18,14 @@ use Rattle.lk_ast.specs.ExprTree.{expr_tree, place_of}
 use Rattle.lk_ast.specs.LegTree.{ItemTree, NotedItem, assume, check}
 use Rattle.lk_ast.specs.ProgramTree.{MethodTree, ProgramTree}
 use Rattle.type_check.specs.Typing.{method_nodes, noted_from, param_names, places_of, program_of, typed_method}
-use Rattle.fresh_check.specs.TermTree.{TermTree, term_of}
-use Rattle.fresh_check.specs.Legs.{assumptions, checks, items_of, legs, nodes_of}
-use Rattle.fresh_check.specs.Sequents.{Obligation, obligations_from}
-use Rattle.fresh_check.specs.Closing.{Closing, closed, refused, closing}
-use Rattle.fresh_check.specs.Answers.{answer, first_unproved, unproved, unproved_by}
-use Rattle.fresh_check.specs.Verdicts.{located, verdict, verdict_of}
-use Rattle.fresh_check.specs.declared.verdicts.Verdict.{Verdict}
-use Rattle.fresh_check.specs.declared.verdicts.Verdict.TheVariants as verdicts
+use Rattle.method_check.specs.TermTree.{TermTree, term_of}
+use Rattle.method_check.specs.Legs.{assumptions, checks, items_of, legs, nodes_of}
+use Rattle.method_check.specs.Sequents.{Obligation, obligations_from}
+use Rattle.method_check.specs.Closing.{Closing, closed, refused, closing}
+use Rattle.method_check.specs.Answers.{answer, first_unproved, unproved, unproved_by}
+use Rattle.method_check.specs.Verdicts.{located, verdict, verdict_of}
+use Rattle.method_check.specs.declared.verdicts.Verdict.{Verdict}
+use Rattle.method_check.specs.declared.verdicts.Verdict.TheVariants as verdicts
 use Rattle.fresh_check.specs.Output.{HasProgram, NamesNodeOf}
 
 -- the answer names an item below a count, if it names one

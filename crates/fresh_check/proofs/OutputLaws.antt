@@ -13,7 +13,7 @@ use Rattle.fresh_check.specs.Output.{HasProgram, IsOutput, VerifiedIsSafe, verdi
 use Rattle.fresh_check.specs.Reports.{IsReport, report_bytes, report_code}
 use Rattle.fresh_check.specs.declared.report.Report.{Report}
 use Rattle.fresh_check.specs.declared.report.Report.TheVariants as reports
-use Rattle.fresh_check.proofs.VerdictLaws.{safe_from_verified}
+use Rattle.method_check.proofs.VerdictLaws.{safe_from_verified}
 
 pub output_of : (bytes text : List ℕ) (code : ℕ) (report : Report) → IsReport bytes report → text ≡ report_bytes 1 report → code ≡ report_code report → IsOutput bytes text code
 output_of bytes text code (reports.Faults faults) (none, one) written counted =

@@ -1,15 +1,3 @@
-pub mod Answers
-pub mod Cases
-pub mod Closing
-pub mod Ends
-pub mod Legs
 pub mod Output
 pub mod Reports
-pub mod Runs
-pub mod Sequents
-pub mod Steps
-pub mod TermTree
 pub mod Texts
-pub mod Validity
-pub mod Values
-pub mod Verdicts

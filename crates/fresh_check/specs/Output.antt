@@ -6,12 +6,12 @@ use Rattle.lk_ast.specs.ProgramTree.{MethodTree, ProgramTree}
 use Rattle.slang_parser.specs.Grammar.{Reads}
 use Rattle.type_check.specs.Fault.{form_left_out}
 use Rattle.type_check.specs.Typing.{IsWellTyped, program_of}
-use Rattle.fresh_check.specs.Runs.{IsSafe}
-use Rattle.fresh_check.specs.Verdicts.{verdict}
+use Rattle.method_check.specs.Runs.{IsSafe}
+use Rattle.method_check.specs.Verdicts.{verdict}
 use Rattle.fresh_check.specs.Texts.{faults_text, verdicts_text, verified_count}
 use Rattle.fresh_check.specs.declared.report.Line.{Line}
-use Rattle.fresh_check.specs.declared.verdicts.Verdict.{Verdict}
-use Rattle.fresh_check.specs.declared.verdicts.Verdict.TheVariants as verdicts
+use Rattle.method_check.specs.declared.verdicts.Verdict.{Verdict}
+use Rattle.method_check.specs.declared.verdicts.Verdict.TheVariants as verdicts
 
 -- The text has this program: the grammar reads it as a tree of which the rules of typing hold, and the program is the one that the tree says.
 abbrev pub HasProgram : List ℕ → ProgramTree → Type 0

@@ -10,8 +10,9 @@ use Rattle.lk_ast.specs.declared.tree.Fault.{Fault}
 use Rattle.lk_ast.specs.declared.tree.Place.{Place}
 use Rattle.lk_ast.specs.declared.typed.NodeNo.{NodeNo}
 use Rattle.lk_ast.specs.declared.typed.NodePlace.{NodePlace}
-use Rattle.fresh_check.specs.declared.verdicts.Verdict.{Verdict}
-use Rattle.fresh_check.specs.declared.verdicts.Verdict.TheVariants as verdicts
+use Rattle.method_check.specs.Verdicts.{is_verified}
+use Rattle.method_check.specs.declared.verdicts.Verdict.{Verdict}
+use Rattle.method_check.specs.declared.verdicts.Verdict.TheVariants as verdicts
 use Rattle.fresh_check.specs.declared.report.Line.{Line}
 
 abbrev pub kind_words : Kind → List ℕ
@@ -51,10 +52,6 @@ line_text nodes line = line.method ++ (codes " " ++ (verdict_words nodes line.ve
 
 abbrev pub revision_text : ℕ → List ℕ
 revision_text revision = codes "revision " ++ (decimal revision ++ codes "\n")
-
-abbrev pub is_verified : Verdict → Bool
-is_verified verdicts.Verified = true
-is_verified (verdicts.Unproved node kind reason) = false
 
 -- how many methods are verified
 abbrev pub verified_count : List Line → ℕ

@@ -4,8 +4,8 @@ ghost use Rattle.fresh_check.specs.Output.{IsOutput, VerifiedIsSafe, verdict_lin
 ghost use Rattle.fresh_check.specs.Reports.{IsReport};
 
 use crate::report::{Line, Report, report_code, report_text};
-use crate::verdicts::check_method;
 use lk_ast::{Fault, Method};
+use method_check::check_method;
 use slang_parser::{ParseEnd, parse};
 use sqlite_items::Items;
 use std::alloc::{AllocError, Global};

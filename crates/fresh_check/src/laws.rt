@@ -1,27 +1,11 @@
 //! Laws over the definitions, as the contracts of functions that do nothing.
-ghost use Rattle.std.specs.Prelude.{◌≡◌, ◌+◌, ℕ, Bool, List};
-ghost use Rattle.fresh_check.specs.Closing.{closed, closing};
+ghost use Rattle.std.specs.Prelude.{◌≡◌, ℕ, List};
 ghost use Rattle.fresh_check.specs.Output.{HasProgram, IsOutput, NamesNodeOf, VerifiedIsSafe};
-ghost use Rattle.fresh_check.specs.Verdicts.{verdict};
-ghost use Rattle.lk_ast.specs.ProgramTree.{MethodTree, ProgramTree};
-ghost use Rattle.std.specs.List.{All, list_all, list_any};
-ghost use Rattle.fresh_check.specs.Runs.{more, run};
-ghost use Rattle.fresh_check.specs.TermTree.{SequentTree};
-ghost use Rattle.fresh_check.specs.Validity.{IsValid, term_value};
-ghost use Rattle.fresh_check.specs.Cases.{cases, hypotheses};
+ghost use Rattle.method_check.specs.Verdicts.{verdict};
+ghost use Rattle.lk_ast.specs.ProgramTree.{ProgramTree};
+ghost use Rattle.std.specs.List.{All};
 
 use slang_parser::reads_one_tree;
-
-/// Whatever the symbols stand for, some case of a sequent is true exactly where all of its hypotheses are.
-pub fn cases_hold()
-    ensures { (values : ℕ → Bool) (sequent : SequentTree) →
-        list_any (λ case. list_all (term_value values) case) (cases sequent) ≡ list_all (term_value values) (hypotheses sequent) }
-{}
-
-/// What is closed is valid.
-pub fn closed_is_valid()
-    ensures { (sequent : SequentTree) → closing sequent ≡ closed → IsValid sequent }
-{}
 
 /// No run of a verified method of a text fails.
 pub fn verified_is_safe()
@@ -40,9 +24,4 @@ pub fn one_output()
 pub fn reported_nodes()
     ensures { (bytes : List ℕ) (program : ProgramTree) → HasProgram bytes program →
         All (λ method. NamesNodeOf program (verdict method)) program.methods }
-{}
-
-/// A run of some turns that is given more turns is the run of their sum.
-pub fn more_turns()
-    ensures { (method : MethodTree) (arguments : List Bool) (a b : ℕ) → run method arguments (a + b) ≡ more b (run method arguments a) }
 {}

@@ -3,8 +3,8 @@ ghost use Rattle.std.specs.List.{flat_map};
 ghost use Rattle.fresh_check.specs.Reports.{report_bytes, report_code};
 ghost use Rattle.fresh_check.specs.Texts.{count_text, fault_text, fault_words, kind_words, line_text, node_place, place_words, reason_words, verdict_words, verified_count};
 
-use crate::verdicts::Verdict;
 use lk_ast::{Fault, Kind, NodeNo, NodePlace, Place, Reason, Text, Typed};
+use method_check::Verdict;
 use sqlite_items::Items;
 use std::alloc::{AllocError, Global};
 

@@ -1,0 +1,15 @@
+use Rattle.std.proofs.Common.{◌≡◌, None, length}
+use Rattle.lk_ast.specs.LegTree.{leg_items}
+use Rattle.method_check.specs.Answers.{answer, first_unproved}
+use Rattle.method_check.specs.Steps.{pending}
+use Rattle.method_check.proofs.leg_check.answer_leg.Given as goal
+
+-- the answer is that of the obligations to come
+abbrev pub invariant-checks : goal.invariant-checks
+invariant-checks l = record {
+  same : answer (leg_items l.leg) ≡ first_unproved (pending l.exec (leg_items l.leg));
+  end : l.exec.end ≡ None;
+}
+
+abbrev pub decreases-checks : goal.decreases-checks
+decreases-checks l = length (pending l.exec (leg_items l.leg))

@@ -1,0 +1,38 @@
+use Rattle.std.proofs.Common.{List, [], ◌∷◌, ◌++◌, map, ap, sym, ◌∙◌}
+use Rattle.lk_ast.specs.declared.check.Kind.TheVariants as kinds
+use Rattle.lk_ast.specs.declared.check.Leg.{Leg}
+use Rattle.lk_ast.specs.LegTree.{NotedItem, item_tree, leg_items}
+use Rattle.lk_ast.specs.ProgramTree.{noted_tree, code_tree}
+use Rattle.method_check.specs.Legs.{assumptions, checks, items_of, nodes_of}
+use Rattle.method_check.proofs.LegTrees.{assumed, stated, checked, beside, beside_code, leg_of, one_leg, items_are, nodes_are, three_parts}
+use Rattle.method_check.proofs.legs.legs_of.Goals as goal
+
+pub returns-clause-items : goal.returns-clause-items
+returns-clause-items c =
+    let m = c.args.method.now in
+    let leg : Leg = record { vars = c.in_ok-vars.vars; items = c.add_checks.new.items } in
+    ap (map leg_items) (c.in_ok-push.ensures.ok ∙ ap (λ before. before ++ leg ∷ []) c.new-legs.ensures)
+    ∙ ap (λ items. items ∷ [])
+    (three_parts (map item_tree c.new-items.result) (map item_tree c.add_assumptions.new.items) (map item_tree c.add_statements.new.items) (map item_tree c.add_checks.new.items)
+    (assumed m.requires_) (stated m.body) (checked kinds.Ensures m.ensures_)
+    (ap (map item_tree) c.new-items.ensures)
+    (c.in_ok-add_assumptions.ensures.items ∙ ap (λ claims. map item_tree c.new-items.result ++ assumed claims) c.as_slice.ensures)
+    (c.in_ok-add_statements.ensures.items ∙ ap (λ body. map item_tree c.add_assumptions.new.items ++ stated body) c.as_slice-2.ensures)
+    (c.in_ok-add_checks.ensures.items ∙ ap (λ claims. map item_tree c.add_statements.new.items ++ checked kinds.Ensures claims) c.as_slice-3.ensures)
+    ∙ sym (items_are kinds.Ensures m.requires_ m.body m.ensures_))
+    ∙ sym (ap (λ all. map items_of (map (λ (l : List NotedItem). assumptions (map noted_tree m.requires_) ++ l) all)) (one_leg (map code_tree m.body) (checks kinds.Ensures (map noted_tree m.ensures_))))
+
+pub returns-clause-nodes : goal.returns-clause-nodes
+returns-clause-nodes c =
+    let m = c.args.method.now in
+    c.in_ok-push-2.ensures.ok
+    ∙ ap (λ before. before ++ c.add_checks.new.nodes ∷ []) c.new-nodes.ensures
+    ∙ ap (λ nodes. nodes ∷ [])
+    (three_parts c.new-beside.result c.add_assumptions.new.nodes c.add_statements.new.nodes c.add_checks.new.nodes
+    (beside m.requires_) (beside_code m.body) (beside m.ensures_)
+    c.new-beside.ensures
+    (c.in_ok-add_assumptions.ensures.nodes ∙ ap (λ claims. c.new-beside.result ++ beside claims) c.as_slice.ensures)
+    (c.in_ok-add_statements.ensures.nodes ∙ ap (λ body. c.add_assumptions.new.nodes ++ beside_code body) c.as_slice-2.ensures)
+    (c.in_ok-add_checks.ensures.nodes ∙ ap (λ claims. c.add_statements.new.nodes ++ beside claims) c.as_slice-3.ensures)
+    ∙ sym (nodes_are kinds.Ensures m.requires_ m.body m.ensures_))
+    ∙ sym (ap (λ all. map nodes_of (map (λ (l : List NotedItem). assumptions (map noted_tree m.requires_) ++ l) all)) (one_leg (map code_tree m.body) (checks kinds.Ensures (map noted_tree m.ensures_))))
