@@ -1,4 +1,5 @@
 pub mod Tables
 pub mod NotedClaims
 pub mod Scopes
+pub mod Statements
 pub mod Methods

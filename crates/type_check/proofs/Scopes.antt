@@ -1,14 +1,10 @@
 -- Names that are added to a scope one after another.
-use Rattle.std.proofs.Common.{◌≡◌, ℕ, ◌+◌, ◌<◌, Bool, true, false, ◌||◌, List, [], ◌∷◌, ◌++◌, length, get_or, take, drop, ap, ◌∙◌, sym, refl, subst, arith, length-append}
-use Rattle.std.proofs.Math.Seq.{get_or-append_seam}
-use Rattle.std.specs.List.{All, AllByRecursion, IsDistinct, list_any}
+use Rattle.std.proofs.Common.{◌≡◌, ℕ, ◌+◌, ◌<◌, Bool, true, false, ◌||◌, List, [], ◌∷◌, ◌++◌, length, get_or, take, drop, ap, ◌∙◌, sym, refl}
+use Rattle.std.specs.List.{AllByRecursion, IsDistinct, list_any}
 use Rattle.std.specs.Str.{bytes_eq}
 use Rattle.std.proofs.lemmas.Cmp.{nat_list_eq_equiv}
-use Rattle.std.proofs.lemmas.List.{map-append, take-append-drop, drop_more}
-use Rattle.std.proofs.lemmas.List.Elements.{All-nil, All-push, All-cons, All-head, All-tail}
+use Rattle.std.proofs.lemmas.List.{take-append-drop, drop_more}
 use Rattle.std.proofs.lemmas.Map.Keys.{IsDistinct-push}
-use Rattle.lk_ast.specs.declared.tree.Param.{Param}
-use Rattle.type_check.specs.Typing.{IsBlank, IsScope, names_of}
 use Rattle.type_check.specs.Refusal.{Refuses}
 use Rattle.type_check.specs.declared.refusal.Refusal.{Refusal}
 use Rattle.type_check.specs.declared.refusal.Refusal.TheVariants.{Rule, NoMemory}
@@ -17,16 +13,6 @@ use Rattle.type_check.specs.declared.refusal.Refusal.TheVariants.{Rule, NoMemory
 pub Refuses-stronger : {P Q : Type 0} (end : Refusal) → (P → Q) → Refuses end Q → Refuses end P
 Refuses-stronger Rule leads refused = λ p. refused (leads p)
 Refuses-stronger NoMemory leads refused = tt
-
-pub IsScope-none : IsScope []
-unfolding IsDistinct
-IsScope-none = record { named = All-nil _; distinct = tt }
-
-pub IsScope-more : (names : List (List ℕ)) (x : List ℕ) → IsScope names → (IsBlank x → ⊥) → list_any (bytes_eq x) names ≡ false → IsScope (names ++ x ∷ [])
-IsScope-more names x scope named new = record {
-  named = All-push (λ text. IsBlank text → ⊥) names x scope.named named;
-  distinct = IsDistinct-push nat_list_eq_equiv names x scope.distinct new;
-}
 
 -- a list around one of its elements
 pub around : {X : Type 0} (xs : List X) (i : ℕ) (x : X) → i < length xs → x ≡ get_or xs i x → xs ≡ take i xs ++ x ∷ drop (i + 1) xs
@@ -50,27 +36,29 @@ differs : (x y : List ℕ) (xs ys : List (List ℕ)) → AllByRecursion (λ z. b
 differs x y [] ys (here, rest) = nat_list_eq_equiv.symm x y ∙ here
 differs x y (z ∷ xs) ys (here, rest) = differs x y xs ys rest
 
-new_there : (xs : List (List ℕ)) (x : List ℕ) (ys : List (List ℕ)) → IsDistinct bytes_eq (xs ++ x ∷ ys) → list_any (bytes_eq x) xs ≡ false
+-- a name of distinct ones is none of those before it
+pub new_there : (xs : List (List ℕ)) (x : List ℕ) (ys : List (List ℕ)) → IsDistinct bytes_eq (xs ++ x ∷ ys) → list_any (bytes_eq x) xs ≡ false
 unfolding IsDistinct
 new_there [] x ys distinct = refl
 new_there (y ∷ xs) x ys (apart, distinct) = both_false _ _ (differs x y xs ys apart) (new_there xs x ys distinct)
 
-named_there : (xs : List (List ℕ)) (x : List ℕ) (ys : List (List ℕ)) → All (λ text. IsBlank text → ⊥) (xs ++ x ∷ ys) → IsBlank x → ⊥
-named_there xs x ys named =
-    let within : length xs < length (xs ++ x ∷ ys) = omega (arith, length-append xs (x ∷ ys)) in
-    subst (λ text. IsBlank text → ⊥) (get_or-append_seam xs x ys x) (named (length xs) x within)
+apart_front : (y : List ℕ) (xs ys : List (List ℕ)) → AllByRecursion (λ z. bytes_eq y z ≡ false) (xs ++ ys) → AllByRecursion (λ z. bytes_eq y z ≡ false) xs
+apart_front y [] ys h = tt
+apart_front y (x ∷ xs) ys (here, rest) = (here, apart_front y xs ys rest)
 
--- a parameter's name may be added to the scope of those before it
-pub free_there : (params : List Param) (i : ℕ) (param : Param) → i < length params → param ≡ get_or params i param → IsScope (names_of params)
-    → (IsBlank param.name.text → ⊥) × (list_any (bytes_eq param.name.text) (names_of (take i params)) ≡ false)
-free_there params i param within is scope =
-    let parts = ap names_of (around params i param within is) ∙ map-append _ (take i params) (param ∷ drop (i + 1) params) in
-    let x = param.name.text in
-    let before = names_of (take i params) in
-    let after = names_of (drop (i + 1) params) in (
-      named_there before x after (subst (λ names. All (λ text. IsBlank text → ⊥) names) parts scope.named),
-      new_there before x after (subst (λ names. IsDistinct bytes_eq names) parts scope.distinct),
-    )
+-- the first of distinct names are distinct
+pub IsDistinct-front : (xs ys : List (List ℕ)) → IsDistinct bytes_eq (xs ++ ys) → IsDistinct bytes_eq xs
+unfolding IsDistinct
+IsDistinct-front [] ys h = tt
+IsDistinct-front (x ∷ xs) ys (apart, distinct) = (apart_front x xs ys apart, IsDistinct-front xs ys distinct)
+
+pub IsDistinct-none : IsDistinct bytes_eq []
+unfolding IsDistinct
+IsDistinct-none = tt
+
+-- a name that is new may be added
+pub IsDistinct-more : (names : List (List ℕ)) (x : List ℕ) → IsDistinct bytes_eq names → list_any (bytes_eq x) names ≡ false → IsDistinct bytes_eq (names ++ x ∷ [])
+IsDistinct-more names x distinct new = IsDistinct-push nat_list_eq_equiv names x distinct new
 
 apart_from_none : (x : List ℕ) (xs : List (List ℕ)) → list_any (bytes_eq x) xs ≡ false → AllByRecursion (λ y. bytes_eq x y ≡ false) xs
 apart_from_none x [] h = tt
@@ -80,18 +68,15 @@ none_from_apart : (x : List ℕ) (xs : List (List ℕ)) → AllByRecursion (λ y
 none_from_apart x [] h = refl
 none_from_apart x (y ∷ xs) (here, rest) = both_false _ _ here (none_from_apart x xs rest)
 
--- a method's name in front of those of its parameters
-pub IsScope-cons : (x : List ℕ) (names : List (List ℕ)) → IsScope names → (IsBlank x → ⊥) → list_any (bytes_eq x) names ≡ false → IsScope (x ∷ names)
+-- a method's name in front of those of its variables
+pub IsDistinct-cons : (x : List ℕ) (names : List (List ℕ)) → IsDistinct bytes_eq names → list_any (bytes_eq x) names ≡ false → IsDistinct bytes_eq (x ∷ names)
 unfolding IsDistinct
-IsScope-cons x names scope named new = record {
-  named = All-cons (λ text. IsBlank text → ⊥) x names named scope.named;
-  distinct = (apart_from_none x names new, scope.distinct);
-}
+IsDistinct-cons x names distinct new = (apart_from_none x names new, distinct)
 
-pub IsScope-tail : (x : List ℕ) (names : List (List ℕ)) → IsScope (x ∷ names) → IsScope names
+pub IsDistinct-tail : (x : List ℕ) (names : List (List ℕ)) → IsDistinct bytes_eq (x ∷ names) → IsDistinct bytes_eq names
 unfolding IsDistinct
-IsScope-tail x names scope = record { named = All-tail (λ text. IsBlank text → ⊥) x names scope.named; distinct = scope.distinct.1 }
+IsDistinct-tail x names distinct = distinct.1
 
-pub IsScope-head : (x : List ℕ) (names : List (List ℕ)) → IsScope (x ∷ names) → (IsBlank x → ⊥) × (list_any (bytes_eq x) names ≡ false)
+pub IsDistinct-head : (x : List ℕ) (names : List (List ℕ)) → IsDistinct bytes_eq (x ∷ names) → list_any (bytes_eq x) names ≡ false
 unfolding IsDistinct
-IsScope-head x names scope = (All-head (λ text. IsBlank text → ⊥) x names scope.named, none_from_apart x names scope.distinct.0)
+IsDistinct-head x names distinct = none_from_apart x names distinct.0

@@ -1,6 +1,7 @@
 //! The rules of typing: the typed program of a text, or the fault of one that breaks a rule.
 #![tactic(auto)]
 
+mod body;
 mod claims;
 mod names;
 mod program;

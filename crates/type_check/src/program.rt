@@ -1,18 +1,23 @@
-ghost use Rattle.std.specs.Prelude.{◌≡◌, ◌∷◌, [], false, IfOk, IfErr, OnOk, IsOkUnless};
-ghost use Rattle.lk_ast.specs.ProgramTree.{program_tree};
-ghost use Rattle.type_check.specs.Typing.{AreWellTyped, IsBlank, IsWellTypedMethod, IsTyped, IsWellTyped, method_nodes, typed_method, program_of};
-ghost use Rattle.type_check.specs.Refusal.{Refuses};
-ghost use Rattle.std.specs.List.{list_any};
+ghost use Rattle.std.specs.Prelude.{◌≡◌, ◌∷◌, ◌++◌, ◌+◌, [], false, length, map, IfOk, IfErr, OnOk, IsOkUnless};
+ghost use Rattle.std.specs.List.{All, IsDistinct, list_any};
 ghost use Rattle.std.specs.Str.{bytes_eq};
 ghost use Rattle.lk_ast.specs.declared.tree.Fault.{Fault};
+ghost use Rattle.lk_ast.specs.ExprTree.{expr_tree};
+ghost use Rattle.lk_ast.specs.ProgramTree.{code_tree, noted_tree, program_tree};
+ghost use Rattle.type_check.specs.Typing.{AreStatementsOver, AreWellTyped, IsClaimOver, IsReturnOver, IsTyped, IsWellTyped, IsWellTypedMethod};
+ghost use Rattle.type_check.specs.Typing.{body_places, code_from, method_nodes, noted_from, number_of_result, over, places_of, program_of};
+ghost use Rattle.type_check.specs.Typing.{returned_code, returned_places, scope_of, type_of, typed_method, val_names};
+ghost use Rattle.type_check.specs.Refusal.{Refuses};
 ghost use Rattle.type_check.specs.Fault.{form_left_out};
 
-use crate::claims::claims_of;
+use crate::body::{code_of, return_of};
+use crate::claims::{claims_of, number};
 use crate::names::NameTable;
 use crate::refusal::Refusal;
-use crate::scope::params_of;
+use crate::scope::{locals_of, params_of};
 use lk_ast::{
-    Decl, Fault, File, Method, MethodDecl, Name, NodeNo, NodePlace, Place, Ty, TypeName, Typed,
+    Code, Decl, Fault, File, Method, MethodDecl, Name, NodeNo, NodePlace, Noted, Place, Ty,
+    TypeName, Typed,
 };
 use sqlite_items::Items;
 use std::alloc::Global;
@@ -40,19 +45,83 @@ impl From<Refusal> for CheckEnd {
     }
 }
 
-/// Tests the name of a method against the names of its parameters.
-fn test_name(params: &NameTable, name: &Name) -> Result<(), Refusal>
-    ensures ok { OnOk result ((IsBlank name.now.text → ⊥) × (list_any (bytes_eq name.now.text) params.now ≡ false)) }
-    ensures err { IfErr result (λ end. Refuses end ((IsBlank name.now.text → ⊥) × (list_any (bytes_eq name.now.text) params.now ≡ false))) }
+/// Tests the name of a method against the names of its variables.
+fn test_name(names: &NameTable, name: &Name) -> Result<(), Refusal>
+    ensures ok { OnOk result (list_any (bytes_eq name.now.text) names.now ≡ false) }
+    ensures err { IfErr result (λ end. Refuses end (list_any (bytes_eq name.now.text) names.now ≡ false)) }
 {
-    let text = name.text.as_str();
-    if text == "_" {
-        return Err(Refusal::Rule);
+    if names.contains(name.text.as_str()) {
+        Err(Refusal::Rule)
+    } else {
+        Ok(())
     }
-    if params.contains(text) {
-        return Err(Refusal::Rule);
+}
+
+/// The type of a result.
+fn type_of(ty: TypeName) -> Ty
+    ensures { result ≡ type_of ty }
+{
+    match ty {
+        TypeName::B(_) => Ty::B,
+        TypeName::Unit(_) => Ty::Unit,
     }
-    Ok(())
+}
+
+/// The number of a result of this type, where it has a value.
+fn number_of_result(ty: TypeName, number: u32) -> Option<u32>
+    ensures { result ≡ number_of_result ty number }
+{
+    match ty {
+        TypeName::B(_) => Some(number),
+        TypeName::Unit(_) => None,
+    }
+}
+
+/// The claims of a method's contract.
+fn contract_of(
+    alloc: Global,
+    names: &NameTable,
+    method: &MethodDecl,
+    own: Option<u32>,
+    nodes: &mut Items<NodePlace>,
+) -> Result<(Items<Noted>, Items<Noted>), Refusal>
+    ensures rules { OnOk result (All (λ claim. IsClaimOver (over names.now) (expr_tree claim)) method.now.requires_
+        × All (λ claim. IsClaimOver (scope_of names.now own) (expr_tree claim)) method.now.ensures_) }
+    ensures requires_ { IfOk result (λ it. map noted_tree it.0 ≡ noted_from (length nodes.old) (over names.now) method.now.requires_) }
+    ensures ensures_ { IfOk result (λ it. map noted_tree it.1
+        ≡ noted_from (length nodes.old + length method.now.requires_) (scope_of names.now own) method.now.ensures_) }
+    ensures nodes { OnOk result (nodes.new ≡ nodes.old ++ places_of method.now.requires_ ++ places_of method.now.ensures_) }
+    ensures err { IfErr result (λ end. Refuses end (All (λ claim. IsClaimOver (over names.now) (expr_tree claim)) method.now.requires_
+        × All (λ claim. IsClaimOver (scope_of names.now own) (expr_tree claim)) method.now.ensures_)) }
+{
+    let requires_ = claims_of(alloc, names, None, method.requires_.as_slice(), nodes)?;
+    let ensures_ = claims_of(alloc, names, own, method.ensures_.as_slice(), nodes)?;
+    Ok((requires_, ensures_))
+}
+
+/// The code of a method's body.
+fn body_of(
+    alloc: Global,
+    names: &mut NameTable,
+    method: &MethodDecl,
+    number: u32,
+    nodes: &mut Items<NodePlace>,
+) -> Result<Items<Code>, Refusal>
+    ensures rules { OnOk result (AreStatementsOver names.old method.now.body
+        × IsReturnOver (names.old ++ val_names method.now.body) method.now.result method.now.returned) }
+    ensures scope { OnOk result (IsDistinct bytes_eq names.old → IsDistinct bytes_eq names.new) }
+    ensures names { OnOk result (names.new ≡ names.old ++ val_names method.now.body) }
+    ensures code { IfOk result (λ code. map code_tree code ≡ code_from (length nodes.old) names.old method.now.body
+        ++ returned_code (length nodes.old + length method.now.body) number (names.old ++ val_names method.now.body) method.now.returned) }
+    ensures nodes { OnOk result (nodes.new ≡ nodes.old ++ body_places method.now.body ++ returned_places method.now.returned) }
+    ensures err { IfErr result (λ end. Refuses end (AreStatementsOver names.old method.now.body
+        × IsDistinct bytes_eq (names.old ++ val_names method.now.body)
+        × IsReturnOver (names.old ++ val_names method.now.body) method.now.result method.now.returned)) }
+{
+    let mut code = code_of(alloc, names, method.body.as_slice(), nodes)?;
+    let last = return_of(alloc, names, method.result, number, &method.returned, nodes)?;
+    code.append(last)?;
+    Ok(code)
 }
 
 /// The program of one method.
@@ -61,25 +130,27 @@ fn program_of_method(alloc: Global, method: &MethodDecl) -> Result<Typed, Refusa
     ensures program { IfOk result (λ typed. program_tree typed ≡ record { methods = typed_method method.now ∷ []; nodes = method_nodes method.now }) }
     ensures err { IfErr result (λ end. Refuses end (IsWellTypedMethod method.now)) }
 {
-    let TypeName::Unit(_) = method.result else {
-        return Err(Refusal::Rule);
-    };
-    let (names, params) = params_of(alloc, method.params.as_slice())?;
-    test_name(&names, &method.name)?;
+    let (mut names, params) = params_of(alloc, method.params.as_slice())?;
+    let locals = locals_of(alloc, method.params.as_slice(), method.body.as_slice())?;
+    let last = number(locals.len())?;
+    let own = number_of_result(method.result, last);
     let mut nodes = Items::new(alloc);
     nodes.push(NodePlace {
         place: method.name.place,
     })?;
-    let requires_ = claims_of(alloc, &names, method.requires_.as_slice(), &mut nodes)?;
-    let ensures_ = claims_of(alloc, &names, method.ensures_.as_slice(), &mut nodes)?;
+    let (requires_, ensures_) = contract_of(alloc, &names, method, own, &mut nodes)?;
+    let body = body_of(alloc, &mut names, method, last, &mut nodes)?;
+    test_name(&names, &method.name)?;
     let mut methods = Items::new(alloc);
     methods.push(Method {
         name: method.name.text.copy(alloc)?,
         node: NodeNo(0),
         params,
-        result: Ty::Unit,
+        result: type_of(method.result),
         requires_,
         ensures_,
+        locals,
+        body,
     })?;
     Ok(Typed { methods, nodes })
 }
