@@ -1,20 +1,30 @@
-use crate::build::not_both;
-use fresh_check::{ProveEnd, Sequent, Term, cases, prove};
+use fresh_check::{Report, check_plain, fault_text, report_text};
+use lk_ast::{Fault, Place};
+use method_check::{ProveEnd, Sequent, Term, cases, prove};
 use sqlite_items::{Boxed, Items};
 use std::alloc::Global;
+use std::str;
 use std::test::Fail;
+
+/// The term that says that one of two symbols holds.
+fn either(alloc: Global, left: u32, right: u32) -> Result<Term, Fail> {
+    Ok(Term::Or(
+        Boxed::new(alloc, Term::Symbol(left))?,
+        Boxed::new(alloc, Term::Symbol(right))?,
+    ))
+}
 
 /// A sequent of this many facts of two cases each, and a goal.
 fn doubling(alloc: Global, count: u32, goal: Term) -> Result<Sequent, Fail> {
     let mut facts = Items::new(alloc);
     for at in 0..count {
-        facts.push(not_both(alloc, at, at)?)?;
+        facts.push(either(alloc, at, at)?)?;
     }
     Ok(Sequent { facts, goal })
 }
 
 #[test]
-fn limit(rt: HostRuntime) -> Result<(), Fail> {
+fn the_limit_of_cases(rt: HostRuntime) -> Result<(), Fail> {
     let alloc = rt.alloc();
     let most = doubling(alloc, 9, Term::Symbol(100))?;
     let leaves = cases(alloc, &most).map_err(|_| "too many")?.leaves;
@@ -31,20 +41,38 @@ fn limit(rt: HostRuntime) -> Result<(), Fail> {
 }
 
 #[test]
-fn literals(rt: HostRuntime) -> Result<(), Fail> {
+fn alternatives_in_their_order(rt: HostRuntime) -> Result<(), Fail> {
     let alloc = rt.alloc();
     let mut facts = Items::new(alloc);
-    facts.push(not_both(alloc, 1, 2)?)?;
-    facts.push(Term::Symbol(1))?;
-    let goal = Term::Not(Boxed::new(alloc, Term::Symbol(2))?);
-    let sequent = Sequent { facts, goal };
-    // Either the first symbol is false, or the second: the leaves come in this order.
-    let leaves = cases(alloc, &sequent).map_err(|_| "too many")?.leaves;
+    facts.push(either(alloc, 1, 2)?)?;
+    let goal = either(alloc, 3, 4)?;
+    let leaves = cases(alloc, &Sequent { facts, goal })
+        .map_err(|_| "too many")?
+        .leaves;
     assert_eq!(rt; leaves.len(), 2);
-    let first = leaves.get(0).ok_or("no leaf")?;
-    assert_eq!(rt; first.len(), 3);
-    let literal = first.get(0).ok_or("no literal")?;
-    assert!(rt; matches!(literal, Term::Not(_)));
-    assert!(rt; matches!(prove(alloc, &sequent), Ok(())));
+    for at in 0..2 {
+        let leaf = leaves.get(at).ok_or("no leaf")?;
+        // One of the fact's parts, and that neither of the goal's parts holds.
+        assert_eq!(rt; leaf.len(), 3);
+        let Some(Term::Symbol(number)) = leaf.get(0) else {
+            return Err(Fail::from("no symbol"));
+        };
+        assert!(rt; *number as usize == at + 1);
+    }
+    Ok(())
+}
+
+#[test]
+fn reports(rt: HostRuntime) -> Result<(), Fail> {
+    let alloc = rt.alloc();
+    let report = check_plain(alloc, b"def m(p: B): Unit = { assert(p) }")?;
+    assert!(rt; matches!(report, Report::Verdicts { .. }));
+    let text = report_text(alloc, 7, &report)?;
+    let wanted = "revision 7\nm unproved -:1:30 assert open\nmethods 1 verified 0\n";
+    assert_eq!(rt; str::from_utf8(&text)?, wanted);
+
+    let place = Place { line: 1, col: 1 };
+    let line = fault_text(alloc, Fault { code: 14, place })?;
+    assert_eq!(rt; line.as_str(), "-:1:1 E14 form left out\n");
     Ok(())
 }

@@ -1,11 +1,11 @@
-//! Tests of typing, closing, verdicts and reports, over trees that are built by hand.
+//! Tests of typing, legs, sequents, closing and reports.
 #![tactic(auto)]
 
 #[cfg(test)]
-mod build;
-#[cfg(test)]
 mod closing;
 #[cfg(test)]
-mod reports;
+mod legs;
+#[cfg(test)]
+mod program;
 #[cfg(test)]
 mod typing;

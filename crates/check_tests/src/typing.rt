@@ -1,101 +1,57 @@
-use crate::build::{Sketch, file, method};
-use lk_ast::{Claim, Decl, File, NodeNo, Place, TypeName};
-use sqlite_items::Items;
-use std::alloc::Global;
+use crate::program::program;
+use lk_ast::{Claim, Code, NodeNo, Place, Ty};
 use std::test::Fail;
-use type_check::{CheckEnd, check_program};
 
-/// Whether the rules hold of a text. Any fault is E14 at the beginning.
-fn is_typed(alloc: Global, file: &File) -> Result<bool, Fail> {
-    match check_program(alloc, file) {
-        Ok(_) => Ok(true),
-        Err(CheckEnd::Fault(fault)) => {
-            if fault.code == 14 && fault.place == (Place { line: 1, col: 1 }) {
-                Ok(false)
-            } else {
-                Err(Fail::from("another fault"))
-            }
-        }
-        Err(CheckEnd::NoMemory) => Err(Fail::from("no memory")),
-    }
-}
+/// Texts that are read, and whether the rules of typing hold of them.
+const TEXTS: [(&str, bool); 24] = [
+    ("", true),
+    ("def m(): Unit = { }", true),
+    ("def m(): Unit = { }\ndef n(): Unit = { }", false),
+    ("def m(p: B, p: B): Unit = { }", false),
+    ("def m(m: B): Unit = { }", false),
+    ("def m(p: Unit): Unit = { }", false),
+    ("def m(p: B): Unit = { Contract(Requires(q)) }", false),
+    ("def m(p: B): Unit = { Contract(Ensures(m)) }", false),
+    ("def m(p: B): B = { }", false),
+    ("def m(p: B): B = { return p }", true),
+    ("def m(p: B): Unit = { return p }", false),
+    ("def m(p: B): B = { Contract(Ensures(Res == p)) return p }", false),
+    ("def m(p: B): B = { Contract(Ensures(Res)); return Res }", false),
+    ("def m(p: B): B = { Contract(Requires(Res)); return p }", false),
+    ("def m(p: B): Unit = { Contract(Ensures(Res)) }", false),
+    ("def m(p: B): B = { Contract(Ensures(Res | !p)); return p }", true),
+    ("def m(p: B): B = { val q: B = p; val r = q; return r & q }", true),
+    ("def m(p: B): Unit = { val q: Unit = p }", false),
+    ("def m(p: B): Unit = { val q = q }", false),
+    ("def m(p: B): Unit = { assert(q); val q = p }", false),
+    ("def m(p: B): Unit = { val p = T }", false),
+    ("def m(p: B): Unit = { val q = T; val q = F }", false),
+    ("def m(p: B): Unit = { val m = T }", false),
+    ("def m(p: B): Unit = { Contract(Ensures(q)); val q = p }", false),
+];
 
 #[test]
 fn rules(rt: HostRuntime) -> Result<(), Fail> {
-    let alloc = rt.alloc();
-    let table = [
-        ("m", "", "", "", true),
-        ("m", "pq", "pq&", "q", true),
-        ("m", "p", "T,F", "p!!,p", true),
-        ("m", "pp", "", "", false),
-        ("m", "pqp", "", "", false),
-        ("m", "m", "", "", false),
-        ("m", "_", "", "", false),
-        ("_", "p", "", "", false),
-        ("m", "p", "q", "", false),
-        ("m", "p", "", "q", false),
-        ("m", "p", "pq&!", "", false),
-        ("m", "p", "m", "", false),
-        ("m", "p", "_", "", false),
-    ];
-    for (name, params, assumed, shown, typed) in table {
-        let sketch = Sketch {
-            name,
-            params,
-            assumed,
-            shown,
-        };
-        let text = file(alloc, method(alloc, sketch)?)?;
-        assert_eq!(rt;
-            is_typed(alloc, &text)?,
-            typed,
-            "{name} {params} {assumed} {shown}"
-        );
+    for &(text, holds) in &TEXTS {
+        if let Ok(typed) = program(rt.alloc(), text) {
+            assert_eq!(rt; typed.is_some(), holds, "{text}");
+        } else {
+            assert!(rt; !holds, "{text}");
+        }
     }
     Ok(())
 }
 
-#[test]
-fn forms(rt: HostRuntime) -> Result<(), Fail> {
-    let alloc = rt.alloc();
-    let place = Place { line: 1, col: 5 };
-    let sketch = Sketch {
-        name: "m",
-        params: "p",
-        assumed: "",
-        shown: "p",
-    };
-    let none = File {
-        items: Items::new(alloc),
-    };
-    assert!(rt; is_typed(alloc, &none)?);
-
-    let mut items = Items::new(alloc);
-    items.push(Decl::Method(method(alloc, sketch)?))?;
-    let other = Sketch {
-        name: "n",
-        ..sketch
-    };
-    items.push(Decl::Method(method(alloc, other)?))?;
-    assert!(rt; !is_typed(alloc, &File { items })?, "two methods");
-
-    let mut returns = method(alloc, sketch)?;
-    returns.result = TypeName::B(place);
-    assert!(rt; !is_typed(alloc, &file(alloc, returns)?)?, "a result");
-
-    let mut takes = method(alloc, sketch)?;
-    takes.params.pop();
-    let unit = lk_ast::Param {
-        name: crate::build::name(alloc, "p", place)?,
-        ty: TypeName::Unit(place),
-    };
-    takes.params.push(unit)?;
-    assert!(rt;
-        !is_typed(alloc, &file(alloc, takes)?)?,
-        "a parameter of type Unit"
-    );
-    Ok(())
+const TEXT: &str = "def m(p: B, q: B): B = {
+  Contract(
+    Requires(q, p),
+    Ensures(q & Res)
+  )
+  val r: B = q & p
+  assert((r))
+  return r
 }
+";
 
 /// Whether a claim is `left & right` over these variables.
 fn is_both(claim: &Claim, left: u32, right: u32) -> bool {
@@ -113,36 +69,55 @@ fn is_variable(claim: &Claim, number: u32) -> bool {
 }
 
 #[test]
-fn numbers(rt: HostRuntime) -> Result<(), Fail> {
-    let alloc = rt.alloc();
-    let sketch = Sketch {
-        name: "m",
-        params: "pqr",
-        assumed: "rq&,p",
-        shown: "pr&",
-    };
-    let typed = check_program(alloc, &file(alloc, method(alloc, sketch)?)?).map_err(
-        |_| "no program",
-    )?;
+fn numbers_and_nodes(rt: HostRuntime) -> Result<(), Fail> {
+    let typed = program(rt.alloc(), TEXT)?.ok_or("no program")?;
     let method = typed.methods.get(0).ok_or("no method")?;
     assert_eq!(rt; method.name.as_str(), "m");
-    assert_eq!(rt; method.params.len(), 3);
+    assert_eq!(rt; method.result, Ty::B);
+    assert_eq!(rt; method.params.len(), 2);
+    assert_eq!(rt; method.locals.len(), 3);
     let first = method.requires_.get(0).ok_or("no claim")?;
     let second = method.requires_.get(1).ok_or("no claim")?;
-    let third = method.ensures_.get(0).ok_or("no claim")?;
-    assert!(rt; is_both(&first.claim, 2, 1));
+    let shown = method.ensures_.get(0).ok_or("no claim")?;
+    assert!(rt; is_variable(&first.claim, 1));
     assert!(rt; is_variable(&second.claim, 0));
-    assert!(rt; is_both(&third.claim, 0, 2));
+    assert!(rt; is_both(&shown.claim, 1, 3));
+    assert_eq!(rt; method.body.len(), 3);
+    let Some(Code::Val {
+        node: set,
+        variable,
+        value,
+    }) = method.body.get(0)
+    else {
+        return Err(Fail::from("no val"));
+    };
+    assert!(rt; *variable == 2 && is_both(value, 1, 0));
+    let Some(Code::Assert(asserted)) = method.body.get(1) else {
+        return Err(Fail::from("no assert"));
+    };
+    assert!(rt; is_variable(&asserted.claim, 2));
+    let Some(Code::Return {
+        node: last,
+        result,
+        value,
+    }) = method.body.get(2)
+    else {
+        return Err(Fail::from("no return"));
+    };
+    assert!(rt; *result == 3 && is_variable(value, 2));
     let places = [
         (method.node, 1, 5),
-        (first.node, 3, 13),
-        (second.node, 3, 14),
-        (third.node, 4, 13),
+        (first.node, 3, 14),
+        (second.node, 3, 17),
+        (shown.node, 4, 13),
+        (*set, 6, 3),
+        (asserted.node, 7, 11),
+        (*last, 8, 3),
     ];
-    for (NodeNo(node), line, col) in places {
+    for &(NodeNo(node), line, col) in &places {
         let node = typed.nodes.get(node as usize).ok_or("no node")?;
         assert_eq!(rt; node.place, Place { line, col });
     }
-    assert_eq!(rt; typed.nodes.len(), 4);
+    assert_eq!(rt; typed.nodes.len(), 7);
     Ok(())
 }
