@@ -5,7 +5,7 @@ ghost use Rattle.slang_parser.specs.Gives.{IfRefused, Moves, Refuses};
 ghost use Rattle.lk_ast.specs.declared.tree.Name.{Name as DoneName};
 ghost use Rattle.lk_ast.specs.declared.tree.Place.{Place as DonePlace};
 
-use crate::cursor::{expect, is};
+use crate::cursor::{expect, first, is};
 use crate::expr::expression;
 use crate::name::{name, type_name};
 use crate::stop::Stop;
@@ -22,13 +22,14 @@ fn optional_type<'t, 'a>(
     ensures shorter { IfOk result (λ r. length r.1.now ≤ length tokens.now) }
     ensures refused { IfErr result (λ stop. IfRefused stop ((draft : Draft) (place : DonePlace) (name : DoneName) → Refuses tokens.now (val_type_or_equals draft place name))) }
 {
-    match tokens {
-        [colon, behind @ ..] if is(TokenKind::Colon, colon) => {
-            let (ty, rest) = type_name(behind)?;
-            Ok((Some(ty), rest))
-        }
-        _ => Ok((None, tokens)),
+    let Ok((token, behind)) = first(tokens) else {
+        return Ok((None, tokens));
+    };
+    if !is(TokenKind::Colon, token) {
+        return Ok((None, tokens));
     }
+    let (ty, rest) = type_name(behind)?;
+    Ok((Some(ty), rest))
 }
 
 /// A `val`, from behind its word on.
