@@ -2,6 +2,7 @@
 use Rattle.std.proofs.Common.{◌≡◌, ℕ, suc, ◌<◌, ◌≤◌, List, [], ◌∷◌, ◌++◌, length, map, Option, Some, None, refl, sym, ap, ◌∙◌, append_assoc, append-nil, arith, cond}
 use Rattle.std.specs.List.{AllByRecursion}
 use Rattle.std.specs.Prelude.{option_and_then, option_to_list}
+use Rattle.std.specs.Option.{option_map}
 use Rattle.std.proofs.lemmas.Bool.{le-leb}
 use Rattle.lk_ast.specs.declared.tree.Place.{Place}
 use Rattle.lk_ast.specs.declared.tree.File.{File}
@@ -17,33 +18,43 @@ use Rattle.slang_lexer.specs.declared.token.TokenKind.{TokenKind}
 use Rattle.slang_lexer.specs.declared.token.TokenKind.TheVariants as kind
 use Rattle.slang_tokens.specs.Tok.{Tok, sign}
 use Rattle.slang_parser.specs.declared.operator.Operator.{Operator}
-use Rattle.slang_parser.specs.declared.operator.Operator.TheVariants.{Conjunction}
+use Rattle.slang_parser.specs.declared.operator.Operator.TheVariants.{Disjunction, Conjunction}
+use Rattle.slang_parser.specs.declared.body.PartWord.{PartWord}
+use Rattle.slang_parser.specs.declared.body.PartWord.TheVariants as words
 use Rattle.slang_parser.specs.declared.contract.ClauseWord.{ClauseWord}
 use Rattle.slang_parser.specs.declared.contract.ClauseWord.TheVariants.{Requiring, Ensuring}
-use Rattle.slang_parser.specs.Grammar.{operator_kind, operator_level, ExprText, truth, falsity, variable, negation, binary, expr_tokens, level, IsGrouped, expr_tree, binary_tree, name_token, Listed, members, separated, optional, listed, ParamText, param_tokens, IsParam, param_tree, type_token, ClauseText, clause_tokens, IsClause, claim_trees, word_order, word_kind, ContractText, contract_tokens, Ascends, IsContract, MethodText, method_tokens, IsMethod, IsOptional, with_clause, with_clauses, bare_method, with_contract, decl_tree, file_tokens, InGrammar}
+use Rattle.slang_parser.specs.Grammar.{operator_kind, operator_level, ExprText, truth, falsity, variable, result, bracketed, negation, binary, expr_tokens, level, IsGrouped, expr_tree, binary_tree, name_token, Listed, members, separated, optional, listed, ParamText, param_tokens, IsParam, param_tree, type_token, ClauseText, clause_tokens, IsClause, claim_trees, word_order, word_kind, ContractText, Ascends, IsContract, TypeText, type_tokens, type_tree, StmtText, val, assert, stmt_tokens, stmt_tree, PartText, contract_part, stmt_part, return_part, part_tokens, IsPart, part_word, part_order, order_behind, InOrder, BodyText, body_tokens, IsBody, MethodText, method_tokens, IsMethod, with_clause, with_clauses, with_part, with_parts, bare_method, decl_tree, file_tokens, InGrammar}
 use Rattle.slang_parser.specs.Below.{Below}
+use Rattle.slang_parser.proofs.Steps.{part_kind}
 use Rattle.slang_parser.proofs.Reading.{operator_level-small, close-Below}
-use Rattle.slang_parser.specs.Machine.{Around, alone, negated, right_of, Grown, close, Claims, with_claim, State, want, have, claim_or_end, clause_end, run, with_claims, Draft, top, ended, params_due, param_or_end, param_colon, param_type, param_end, result_colon, result_type, equals, body, clause_or_end, claims_due, body_end}
+use Rattle.slang_parser.specs.Machine.{Around, alone, inside, negated, right_of, Grown, close, Claims, with_claim, Purpose, claim_of, value_of, assertion_of, return_of, State, want, have, claim_or_end, clause_end, run, with_claims, Draft, with_draft_stmt, top, ended, params_due, param_or_end, param_colon, param_type, param_end, result_colon, result_type, equals, part_or_end, part_end, part_due, val_type_or_equals, val_equals, clauses_due, clause_or_end, claims_due, next_whole, next_behind, next_operator, operator_of}
 
 Below-more : (around : Around) (m n : ℕ) → m ≤ n → Below around m → Below around n
 Below-more alone m n h b = tt
+Below-more (inside around) m n h b = tt
 Below-more (negated place around) m n h b = omega arith
 Below-more (right_of left operator around) m n h b = omega arith
 
 -- the operand, read among what is open around it: the same as the whole expression for each operator that it holds together against
-record ReadAs (around : Around) (at : Claims) (text : ExprText) : Type 0 where
+record ReadAs (around : Around) (at : Purpose) (text : ExprText) : Type 0 where
   pub expr : Expr
   pub left : Around
   pub reads : (rest : List Tok) → run (want around at) (expr_tokens text ++ rest) ≡ run (have expr left at) rest
   pub closes : (least : ℕ) → least ≤ level text → close least expr left ≡ close least (expr_tree text) around
 
 -- an operator closes what binds as tightly
-after_operator : (operator : Operator) (place : Place) (expr : Expr) (around : Around) (at : Claims) (grown : Grown) (rest : List Tok)
+after_operator : (operator : Operator) (place : Place) (expr : Expr) (around : Around) (at : Purpose) (grown : Grown) (rest : List Tok)
     → close (operator_level operator) expr around ≡ grown
     → run (have expr around at) (sign (operator_kind operator) place ∷ rest) ≡ run (want (right_of grown.expr operator grown.around) at) rest
+after_operator Disjunction place expr around at grown rest h = ap (λ (g : Grown). run (want (right_of g.expr Disjunction g.around) at) rest) h
 after_operator Conjunction place expr around at grown rest h = ap (λ (g : Grown). run (want (right_of g.expr Conjunction g.around) at) rest) h
 
-read_expr : (text : ExprText) (around : Around) (at : Claims) → IsGrouped text → Below around (level text) → ReadAs around at text
+-- a bracket closes what is inside
+after_bracket : (place : Place) (expr inner : Expr) (left around : Around) (at : Purpose) (rest : List Tok) → close 0 expr left ≡ record { expr = inner; around = inside around }
+    → run (have expr left at) (sign kind.RightParen place ∷ rest) ≡ run (have inner around at) rest
+after_bracket place expr inner left around at rest h = ap (λ (g : Grown). option_and_then (λ s. run s rest) (next_behind g.expr g.around at (sign kind.RightParen place))) h
+
+read_expr : (text : ExprText) (around : Around) (at : Purpose) → IsGrouped text → Below around (level text) → ReadAs around at text
 read_expr (truth place) around at g b = record { expr = e.True place; left = around; reads = λ rest. refl; closes = λ least h. refl }
 read_expr (falsity place) around at g b = record { expr = e.False place; left = around; reads = λ rest. refl; closes = λ least h. refl }
 read_expr (variable n) around at g b = record {
@@ -52,6 +63,17 @@ read_expr (variable n) around at g b = record {
   reads = λ rest. ap (λ b. option_and_then (λ state. run state rest) (cond b (Some (have (e.Name n) around at)) None)) g;
   closes = λ least h. refl;
 }
+read_expr (result place) around at g b = record { expr = e.Res place; left = around; reads = λ rest. refl; closes = λ least h. refl }
+read_expr (bracketed place inner end) around at g b =
+    let within = read_expr inner (inside around) at g tt in
+    record {
+      expr = expr_tree inner;
+      left = around;
+      reads = λ rest. ap (run (want (inside around) at)) (append_assoc (expr_tokens inner) (sign kind.RightParen end ∷ []) rest)
+          ∙ within.reads (sign kind.RightParen end ∷ rest)
+          ∙ after_bracket end within.expr (expr_tree inner) within.left around at rest (within.closes 0 (omega arith));
+      closes = λ least h. refl;
+    }
 read_expr (negation place operand) around at g b =
     let inner = read_expr operand (negated place around) at g.1 g.0 in
     record { expr = inner.expr; left = inner.left; reads = inner.reads; closes = λ least h. inner.closes least (omega arith) }
@@ -69,6 +91,15 @@ read_expr (binary left operator place right) around at g b =
       closes = λ least h. second.closes least (omega (arith, g.1))
           ∙ ap (λ x. cond x (close least (binary_tree operator (expr_tree left) (expr_tree right)) around) (record { expr = expr_tree right; around = right_of (expr_tree left) operator around })) (le-leb least (operator_level operator) h);
     }
+
+-- a whole expression, and the token behind it
+read_whole : (text : ExprText) (at : Purpose) (token : Tok) (rest : List Tok) → IsGrouped text → operator_of token ≡ None
+    → run (want alone at) (expr_tokens text ++ token ∷ rest) ≡ option_and_then (λ s. run s rest) (next_whole (expr_tree text) at token)
+read_whole text at token rest g none =
+    let read = read_expr text alone at g tt in
+    read.reads (token ∷ rest)
+    ∙ ap (λ o. option_and_then (λ s. run s rest) (next_operator read.expr read.left at token o)) none
+    ∙ ap (λ (g : Grown). option_and_then (λ s. run s rest) (next_behind g.expr g.around at token)) (read.closes 0 (omega arith))
 
 -- Lists.
 
@@ -101,26 +132,24 @@ read_front separator spell due add Fits end over one final none (m ∷ ms) last 
 -- Claims.
 
 -- after a comma a claim begins as it does elsewhere
-starts_claim : (text : ExprText) (at : Claims) (rest : List Tok) → run (claim_or_end at) (expr_tokens text ++ rest) ≡ run (want alone at) (expr_tokens text ++ rest)
+starts_claim : (text : ExprText) (at : Claims) (rest : List Tok) → run (claim_or_end at) (expr_tokens text ++ rest) ≡ run (want alone (claim_of at)) (expr_tokens text ++ rest)
 starts_claim (truth place) at rest = refl
 starts_claim (falsity place) at rest = refl
 starts_claim (variable n) at rest = refl
+starts_claim (result place) at rest = refl
+starts_claim (bracketed left inner right) at rest = refl
 starts_claim (negation place operand) at rest = refl
 starts_claim (binary left operator place right) at rest =
     let e = append_assoc (expr_tokens left) (sign (operator_kind operator) place ∷ expr_tokens right) rest in
-    ap (run (claim_or_end at)) e ∙ starts_claim left at _ ∙ sym (ap (run (want alone at)) e)
+    ap (run (claim_or_end at)) e ∙ starts_claim left at _ ∙ sym (ap (run (want alone (claim_of at))) e)
 
 claim_comma : (text : ExprText) (at : Claims) (place : Place) (rest : List Tok) → IsGrouped text
-    → run (want alone at) (expr_tokens text ++ sign kind.Comma place ∷ rest) ≡ run (claim_or_end (with_claim at (expr_tree text))) rest
-claim_comma text at place rest g =
-    let read = read_expr text alone at g tt in
-    read.reads (sign kind.Comma place ∷ rest) ∙ ap (λ (g : Grown). run (claim_or_end (with_claim at g.expr)) rest) (read.closes 0 (omega arith))
+    → run (want alone (claim_of at)) (expr_tokens text ++ sign kind.Comma place ∷ rest) ≡ run (claim_or_end (with_claim at (expr_tree text))) rest
+claim_comma text at place rest g = read_whole text (claim_of at) (sign kind.Comma place) rest g refl
 
 claim_last : (text : ExprText) (at : Claims) (place : Place) (rest : List Tok) → IsGrouped text
-    → run (want alone at) (expr_tokens text ++ sign kind.RightParen place ∷ rest) ≡ run (clause_end (with_claims (with_claim at (expr_tree text))) (suc (word_order at.word))) rest
-claim_last text at place rest g =
-    let read = read_expr text alone at g tt in
-    read.reads (sign kind.RightParen place ∷ rest) ∙ ap (λ (g : Grown). run (clause_end (with_claims (with_claim at g.expr)) (suc (word_order at.word))) rest) (read.closes 0 (omega arith))
+    → run (want alone (claim_of at)) (expr_tokens text ++ sign kind.RightParen place ∷ rest) ≡ run (clause_end (with_claims (with_claim at (expr_tree text))) (suc (word_order at.word))) rest
+claim_last text at place rest g = read_whole text (claim_of at) (sign kind.RightParen place) rest g refl
 
 abbrev add_claim : Claims → ExprText → Claims
 add_claim at text = with_claim at (expr_tree text)
@@ -143,15 +172,15 @@ all_claims (text ∷ texts) at h = (h.0, all_claims texts (add_claim at text) h.
 
 -- a list that is not empty begins with a claim
 starts_claims : (front : List (ExprText × Place)) (last : Option ExprText) (at : Claims) (rest : List Tok) → 0 < length (map (λ m. m.0) front ++ option_to_list last)
-    → run (claim_or_end at) ((separated kind.Comma expr_tokens front ++ optional expr_tokens last) ++ rest) ≡ run (want alone at) ((separated kind.Comma expr_tokens front ++ optional expr_tokens last) ++ rest)
+    → run (claim_or_end at) ((separated kind.Comma expr_tokens front ++ optional expr_tokens last) ++ rest) ≡ run (want alone (claim_of at)) ((separated kind.Comma expr_tokens front ++ optional expr_tokens last) ++ rest)
 starts_claims [] None at rest h = absurd (omega arith)
 starts_claims [] (Some text) at rest h = starts_claim text at rest
 starts_claims (m ∷ ms) last at rest h =
     let e = ap (λ tokens. tokens ++ rest) (append_assoc (expr_tokens m.0) _ (optional expr_tokens last)) ∙ append_assoc (expr_tokens m.0) _ rest in
-    ap (run (claim_or_end at)) e ∙ starts_claim m.0 at _ ∙ sym (ap (run (want alone at)) e)
+    ap (run (claim_or_end at)) e ∙ starts_claim m.0 at _ ∙ sym (ap (run (want alone (claim_of at))) e)
 
 read_claims : (list : Listed ExprText) (at : Claims) (place : Place) (rest : List Tok) → 0 < length (members list) → AllByRecursion IsGrouped (members list)
-    → run (want alone at) (listed kind.Comma expr_tokens list ++ sign kind.RightParen place ∷ rest)
+    → run (want alone (claim_of at)) (listed kind.Comma expr_tokens list ++ sign kind.RightParen place ∷ rest)
     ≡ after_claims rest (record at { claims = at.claims ++ map expr_tree (members list) })
 read_claims list at place rest some all =
     sym (starts_claims list.front list.last at (sign kind.RightParen place ∷ rest) some)
@@ -164,57 +193,122 @@ read_claims list at place rest some all =
 
 -- Contracts.
 
--- a contract so far: its method, and the least order of a clause that may follow
-record Clauses : Type 0 where
+-- a method so far, and the least order of what may follow
+record SoFar : Type 0 where
   draft : Draft
   least : ℕ
 
-abbrev add_clause : Clauses → ClauseText → Clauses
+abbrev add_clause : SoFar → ClauseText → SoFar
 add_clause at clause = record {
   draft = record { done = at.draft.done; method = with_clause at.draft.method clause.word (claim_trees clause) };
   least = suc (word_order clause.word);
 }
 
-abbrev FitsClause : Clauses → ClauseText → Type 0
+abbrev FitsClause : SoFar → ClauseText → Type 0
 FitsClause at clause = (at.least ≤ word_order clause.word) × IsClause clause
 
 starts_clause : (word : ClauseWord) (draft : Draft) (least : ℕ) (word_place left : Place) (rest : List Tok) → least ≤ word_order word
-    → run (clause_or_end draft least) (sign (word_kind word) word_place ∷ sign kind.LeftParen left ∷ rest) ≡ run (want alone (record { draft = draft; word = word; claims = [] })) rest
+    → run (clause_or_end draft least) (sign (word_kind word) word_place ∷ sign kind.LeftParen left ∷ rest) ≡ run (want alone (claim_of (record { draft = draft; word = word; claims = [] }))) rest
 starts_clause Requiring draft least word_place left rest h =
     ap (λ b. option_and_then (λ state. run state (sign kind.LeftParen left ∷ rest)) (cond b (Some (claims_due draft Requiring)) None)) (le-leb least 0 h)
 starts_clause Ensuring draft least word_place left rest h =
     ap (λ b. option_and_then (λ state. run state (sign kind.LeftParen left ∷ rest)) (cond b (Some (claims_due draft Ensuring)) None)) (le-leb least 1 h)
 
-read_clause : (at : Clauses) (clause : ClauseText) (rest : List Tok) → FitsClause at clause
+read_clause : (at : SoFar) (clause : ClauseText) (rest : List Tok) → FitsClause at clause
     → run (clause_or_end at.draft at.least) (clause_tokens clause ++ rest) ≡ run (clause_end (add_clause at clause).draft (add_clause at clause).least) rest
 read_clause at clause rest fits =
     ap (λ tokens. run (clause_or_end at.draft at.least) (sign (word_kind clause.word) clause.word_place ∷ sign kind.LeftParen clause.left ∷ tokens)) (append_assoc (listed kind.Comma expr_tokens clause.claims) _ rest)
     ∙ starts_clause clause.word at.draft at.least clause.word_place clause.left _ fits.0
     ∙ read_claims clause.claims _ clause.right rest fits.1.0 fits.1.1
 
-all_clauses : (clauses : List ClauseText) (at : Clauses) → Ascends at.least clauses → AllByRecursion IsClause clauses → AllFrom add_clause FitsClause at clauses
+all_clauses : (clauses : List ClauseText) (at : SoFar) → Ascends at.least clauses → AllByRecursion IsClause clauses → AllFrom add_clause FitsClause at clauses
 all_clauses [] at ascends all = tt
 all_clauses (clause ∷ clauses) at ascends all = ((ascends.0, all.0), all_clauses clauses (add_clause at clause) ascends.1 all.1)
 
-gathered_clauses : (clauses : List ClauseText) (at : Clauses) → (gathered add_clause at clauses).draft ≡ record { done = at.draft.done; method = with_clauses at.draft.method clauses }
+gathered_clauses : (clauses : List ClauseText) (at : SoFar) → (gathered add_clause at clauses).draft ≡ record { done = at.draft.done; method = with_clauses at.draft.method clauses }
 gathered_clauses [] at = refl
 gathered_clauses (clause ∷ clauses) at = gathered_clauses clauses (add_clause at clause)
 
+-- a contract from behind its word on
 read_contract : (draft : Draft) (contract : ContractText) (rest : List Tok) → IsContract contract
-    → run (body draft) (contract_tokens contract ++ rest) ≡ run (body_end (record { done = draft.done; method = with_clauses draft.method (members contract.clauses) })) rest
+    → run (clauses_due draft) (sign kind.LeftParen contract.left ∷ (listed kind.Comma clause_tokens contract.clauses ++ sign kind.RightParen contract.right ∷ []) ++ rest)
+    ≡ run (part_end (record { done = draft.done; method = with_clauses draft.method (members contract.clauses) }) 1) rest
 read_contract draft contract rest well =
     ap (λ tokens. run (clause_or_end draft 0) tokens) (append_assoc (listed kind.Comma clause_tokens contract.clauses) _ rest)
-    ∙ read_front kind.Comma clause_tokens (λ at. clause_or_end at.draft at.least) add_clause FitsClause (sign kind.RightParen contract.right ∷ rest) (λ at. run (body_end at.draft) rest)
+    ∙ read_front kind.Comma clause_tokens (λ at. clause_or_end at.draft at.least) add_clause FitsClause (sign kind.RightParen contract.right ∷ rest) (λ at. run (part_end at.draft 1) rest)
     (λ a m p r fits. read_clause a m (sign kind.Comma p ∷ r) fits)
     (λ a m fits. read_clause a m (sign kind.RightParen contract.right ∷ rest) fits)
     (λ a. refl)
     contract.clauses.front contract.clauses.last (record { draft = draft; least = 0 }) (all_clauses (members contract.clauses) _ well.0 well.1)
-    ∙ ap (λ d. run (body_end d) rest) (gathered_clauses (members contract.clauses) (record { draft = draft; least = 0 }))
+    ∙ ap (λ d. run (part_end d 1) rest) (gathered_clauses (members contract.clauses) (record { draft = draft; least = 0 }))
 
-read_body : (draft : Draft) (contract : Option ContractText) (place : Place) (rest : List Tok) → IsOptional IsContract contract
-    → run (body draft) (optional contract_tokens contract ++ sign kind.RightBrace place ∷ rest) ≡ run (ended (draft.done ++ Method (with_contract draft.method contract) ∷ [])) rest
-read_body draft None place rest well = refl
-read_body draft (Some contract) place rest well = read_contract draft contract (sign kind.RightBrace place ∷ rest) well
+-- Bodies.
+
+-- a part begins with its word
+starts_part : (word : PartWord) (draft : Draft) (least : ℕ) (place : Place) (rest : List Tok) → least ≤ part_order word
+    → run (part_or_end draft least) (sign (part_kind word) place ∷ rest) ≡ run (part_due draft place word) rest
+starts_part words.Contract draft least place rest h = ap (λ b. option_and_then (λ s. run s rest) (cond b (Some (part_due draft place words.Contract)) None)) (le-leb least 0 h)
+starts_part words.Val draft least place rest h = ap (λ b. option_and_then (λ s. run s rest) (cond b (Some (part_due draft place words.Val)) None)) (le-leb least 1 h)
+starts_part words.Assert draft least place rest h = ap (λ b. option_and_then (λ s. run s rest) (cond b (Some (part_due draft place words.Assert)) None)) (le-leb least 1 h)
+starts_part words.Return draft least place rest h = ap (λ b. option_and_then (λ s. run s rest) (cond b (Some (part_due draft place words.Return)) None)) (le-leb least 2 h)
+
+-- the type of a `val`, where it stands
+read_optional_type : (draft : Draft) (place : Place) (name : Name) (ty : Option TypeText) (end : Place) (rest : List Tok)
+    → run (val_type_or_equals draft place name) (optional type_tokens ty ++ sign kind.Equals end ∷ rest) ≡ run (val_equals draft place name (option_map type_tree ty)) (sign kind.Equals end ∷ rest)
+read_optional_type draft place name None end rest = refl
+read_optional_type draft place name (Some ty) end rest = by_type ty.ty where
+  by_type : (t : TypeName) → run (val_type_or_equals draft place name) (sign kind.Colon ty.colon ∷ type_token t ∷ sign kind.Equals end ∷ rest) ≡ run (val_equals draft place name (Some t)) (sign kind.Equals end ∷ rest)
+  by_type (B p) = refl
+  by_type (UnitType p) = refl
+
+abbrev add_part : SoFar → PartText → SoFar
+add_part at part = record {
+  draft = record { done = at.draft.done; method = with_part at.draft.method part };
+  least = order_behind (part_word part);
+}
+
+abbrev FitsPart : SoFar → PartText → Type 0
+FitsPart at part = (at.least ≤ part_order (part_word part)) × IsPart part
+
+read_stmt : (at : SoFar) (stmt : StmtText) (token : Tok) (rest : List Tok) → FitsPart at (stmt_part stmt) → operator_of token ≡ None
+    → run (part_or_end at.draft at.least) (stmt_tokens stmt ++ token ∷ rest) ≡ run (part_end (with_draft_stmt at.draft (stmt_tree stmt)) 1) (token ∷ rest)
+read_stmt at (val place name ty end value) token rest fits none =
+    starts_part words.Val at.draft at.least place (name_token name ∷ (optional type_tokens ty ++ sign kind.Equals end ∷ expr_tokens value) ++ token ∷ rest) fits.0
+    ∙ ap (λ b. option_and_then (λ s. run s ((optional type_tokens ty ++ sign kind.Equals end ∷ expr_tokens value) ++ token ∷ rest)) (cond b (Some (val_type_or_equals at.draft place name)) None)) fits.1.0
+    ∙ ap (run (val_type_or_equals at.draft place name)) (append_assoc (optional type_tokens ty) (sign kind.Equals end ∷ expr_tokens value) (token ∷ rest))
+    ∙ read_optional_type at.draft place name ty end (expr_tokens value ++ token ∷ rest)
+    ∙ read_whole value (value_of at.draft place name (option_map type_tree ty)) token rest fits.1.1 none
+read_stmt at (assert place left claim right) token rest fits none =
+    starts_part words.Assert at.draft at.least place (sign kind.LeftParen left ∷ (expr_tokens claim ++ sign kind.RightParen right ∷ []) ++ token ∷ rest) fits.0
+    ∙ ap (run (want alone (assertion_of at.draft place))) (append_assoc (expr_tokens claim) (sign kind.RightParen right ∷ []) (token ∷ rest))
+    ∙ read_whole claim (assertion_of at.draft place) (sign kind.RightParen right) (token ∷ rest) fits.1 refl
+
+read_part : (at : SoFar) (part : PartText) (token : Tok) (rest : List Tok) → FitsPart at part → operator_of token ≡ None
+    → run (part_or_end at.draft at.least) (part_tokens part ++ token ∷ rest) ≡ run (part_end (add_part at part).draft (add_part at part).least) (token ∷ rest)
+read_part at (contract_part contract) token rest fits none =
+    starts_part words.Contract at.draft at.least contract.word_place (sign kind.LeftParen contract.left ∷ (listed kind.Comma clause_tokens contract.clauses ++ sign kind.RightParen contract.right ∷ []) ++ token ∷ rest) fits.0 ∙ read_contract at.draft contract (token ∷ rest) fits.1
+read_part at (stmt_part (val place name ty end value)) token rest fits none = read_stmt at (val place name ty end value) token rest fits none
+read_part at (stmt_part (assert place left claim right)) token rest fits none = read_stmt at (assert place left claim right) token rest fits none
+read_part at (return_part place value) token rest fits none =
+    starts_part words.Return at.draft at.least place (expr_tokens value ++ token ∷ rest) fits.0 ∙ read_whole value (return_of at.draft place) token rest fits.1 none
+
+all_parts : (parts : List PartText) (at : SoFar) → InOrder at.least parts → AllByRecursion IsPart parts → AllFrom add_part FitsPart at parts
+all_parts [] at order all = tt
+all_parts (part ∷ parts) at order all = ((order.0, all.0), all_parts parts (add_part at part) order.1 all.1)
+
+gathered_parts : (parts : List PartText) (at : SoFar) → (gathered add_part at parts).draft ≡ record { done = at.draft.done; method = with_parts at.draft.method parts }
+gathered_parts [] at = refl
+gathered_parts (part ∷ parts) at = gathered_parts parts (add_part at part)
+
+read_body : (draft : Draft) (body : BodyText) (place : Place) (rest : List Tok) → IsBody body
+    → run (part_or_end draft 0) (body_tokens body ++ sign kind.RightBrace place ∷ rest) ≡ run (ended (draft.done ++ Method (with_parts draft.method (members body)) ∷ [])) rest
+read_body draft body place rest well =
+    read_front kind.Newline part_tokens (λ at. part_or_end at.draft at.least) add_part FitsPart (sign kind.RightBrace place ∷ rest) (λ at. run (ended (at.draft.done ++ Method at.draft.method ∷ [])) rest)
+    (λ a m p r fits. read_part a m (sign kind.Newline p) r fits refl)
+    (λ a m fits. read_part a m (sign kind.RightBrace place) rest fits refl)
+    (λ a. refl)
+    body.front body.last (record { draft = draft; least = 0 }) (all_parts (members body) _ well.0 well.1)
+    ∙ ap (λ (d : Draft). run (ended (d.done ++ Method d.method ∷ [])) rest) (gathered_parts (members body) (record { draft = draft; least = 0 }))
 
 -- Methods.
 
@@ -264,14 +358,14 @@ read_method done m rest well =
     let draft : Draft = record { done = done; method = bare_method m.name (map param_tree (members m.params)) m.result_type } in
     let params = listed kind.Comma param_tokens m.params in
     let behind : List Tok = sign kind.RightParen m.right ∷ sign kind.Colon m.colon ∷ type_token m.result_type ∷ sign kind.Equals m.equals
-    ∷ sign kind.LeftBrace m.begin ∷ optional contract_tokens m.contract in
+    ∷ sign kind.LeftBrace m.begin ∷ body_tokens m.body in
     let whole : List Tok = sign kind.LeftParen m.left ∷ params ++ (behind ++ sign kind.RightBrace m.end ∷ rest) in
     ap (λ tokens. run (top done) (sign kind.Def m.word_place ∷ name_token m.name ∷ sign kind.LeftParen m.left ∷ tokens))
     (append_assoc (params ++ behind) (sign kind.RightBrace m.end ∷ []) rest ∙ append_assoc params behind (sign kind.RightBrace m.end ∷ rest))
     ∙ ap (λ b. option_and_then (λ state. run state whole) (cond b (Some (params_due done m.name)) None)) well.0
     ∙ read_params done m.name m.params m.right _ well.1
-    ∙ read_result_type done m.name (map param_tree (members m.params)) m.result_type (sign kind.Equals m.equals ∷ sign kind.LeftBrace m.begin ∷ optional contract_tokens m.contract ++ sign kind.RightBrace m.end ∷ rest)
-    ∙ read_body draft m.contract m.end rest well.2
+    ∙ read_result_type done m.name (map param_tree (members m.params)) m.result_type (sign kind.Equals m.equals ∷ sign kind.LeftBrace m.begin ∷ body_tokens m.body ++ sign kind.RightBrace m.end ∷ rest)
+    ∙ read_body draft m.body m.end rest well.2
 
 -- Texts.
 

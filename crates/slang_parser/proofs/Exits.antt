@@ -1,5 +1,5 @@
 -- Where a function passes a refusal on.
-use Rattle.std.proofs.Common.{◌≡◌, Result, None}
+use Rattle.std.proofs.Common.{◌≡◌, List, Result, None}
 use Rattle.std.specs.Prelude.{IfErr, IsErrAnd}
 use Rattle.std.proofs.lemmas.Result.{err_from_is_err_and}
 use Rattle.slang_lexer.specs.declared.token.TokenKind.{TokenKind}
@@ -9,7 +9,7 @@ use Rattle.slang_parser.specs.declared.stop.Stop.TheVariants.{Refused, NoMemory}
 use Rattle.slang_parser.specs.Machine.{State, finish, next, on, is}
 use Rattle.slang_parser.specs.Gives.{IfRefused, Expects}
 
-weaker : (stop : Stop) (P Q : Type 0) → (P → Q) → IfRefused stop P → IfRefused stop Q
+pub weaker : (stop : Stop) (P Q : Type 0) → (P → Q) → IfRefused stop P → IfRefused stop Q
 weaker Refused P Q f h = f h
 weaker NoMemory P Q f h = tt
 
@@ -21,5 +21,5 @@ passed_on result stop P Q e h f =
     rw (p.1, p.2) (weaker stop P Q f h)
 
 -- a state in which one token is due
-pub expects : (k : TokenKind) (from to : State) → finish from ≡ None → ((token : Tok) → next from token ≡ on (is k token) to) → Expects k from to
-expects k from to e h = record { at_end = e; step = h }
+pub expects : {tokens : List Tok} (k : TokenKind) (from to : State) → finish from ≡ None → ((token : Tok) → next from token ≡ on (is k token) to) → Expects k tokens from to
+expects k from to e h = record { at_end = e; step = λ token rest _. h token }

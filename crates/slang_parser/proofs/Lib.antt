@@ -1,4 +1,10 @@
 pub mod Complete
+pub mod Steps
+pub mod Left
+pub mod Expressions
+pub mod Clauses
+pub mod Bodies
+pub mod Methods
 pub mod Sound
 pub mod Reading
 pub mod Turns

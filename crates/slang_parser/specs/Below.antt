@@ -3,11 +3,12 @@ use Rattle.std.specs.Prelude.{◌≤◌, ◌<◌, ℕ, List, [], ◌∷◌, Opti
 use Rattle.slang_parser.specs.declared.operator.Operator.{Operator}
 use Rattle.slang_parser.specs.Grammar.{operator_level}
 use Rattle.slang_tokens.specs.Tok.{Tok}
-use Rattle.slang_parser.specs.Machine.{Around, alone, negated, right_of, operator_of}
+use Rattle.slang_parser.specs.Machine.{Around, alone, inside, negated, right_of, operator_of}
 
 -- what is open leaves operators from this level on to the expression
 abbrev pub Below : Around → ℕ → Type 0
 Below alone n = ⊤
+Below (inside around) n = ⊤
 Below (negated place around) n = 9 ≤ n
 Below (right_of left operator around) n = operator_level operator < n
 

@@ -2,6 +2,7 @@
 -- place of each token, and an account says both how its part is spelled and which tree it has.
 use Rattle.std.specs.Prelude.{◌≡◌, ℕ, suc, ◌<◌, ◌≤◌, Bool, not, List, [], ◌∷◌, ◌++◌, length, map, Option, Some, None, option_to_list, IsTrue, codes}
 use Rattle.std.specs.List.{AllByRecursion}
+use Rattle.std.specs.Option.{option_map}
 use Rattle.std.specs.Str.{bytes_eq, IsUtf8}
 use Rattle.lk_ast.specs.declared.tree.Place.{Place}
 use Rattle.lk_ast.specs.declared.tree.Name.{Name}
@@ -10,6 +11,9 @@ use Rattle.lk_ast.specs.declared.tree.Decl.{Decl}
 use Rattle.lk_ast.specs.declared.tree.Decl.TheVariants.{Method}
 use Rattle.lk_ast.specs.declared.tree.MethodDecl.{MethodDecl}
 use Rattle.lk_ast.specs.declared.tree.Param.{Param}
+use Rattle.lk_ast.specs.declared.tree.Stmt.{Stmt}
+use Rattle.lk_ast.specs.declared.tree.Stmt.TheVariants as statement
+use Rattle.lk_ast.specs.declared.tree.Return.{Return}
 use Rattle.lk_ast.specs.declared.tree.TypeName.{TypeName}
 use Rattle.lk_ast.specs.declared.tree.TypeName.TheVariants.{B, Unit as UnitType}
 use Rattle.lk_ast.specs.declared.tree.Expr.{Expr, out-Expr}
@@ -18,7 +22,9 @@ use Rattle.lk_ast.specs.declared.tree.Expr.TheOpen as layer
 use Rattle.slang_lexer.specs.declared.token.TokenKind.{TokenKind}
 use Rattle.slang_lexer.specs.declared.token.TokenKind.TheVariants as kind
 use Rattle.slang_parser.specs.declared.operator.Operator.{Operator}
-use Rattle.slang_parser.specs.declared.operator.Operator.TheVariants.{Conjunction}
+use Rattle.slang_parser.specs.declared.operator.Operator.TheVariants.{Disjunction, Conjunction}
+use Rattle.slang_parser.specs.declared.body.PartWord.{PartWord}
+use Rattle.slang_parser.specs.declared.body.PartWord.TheVariants as words
 use Rattle.slang_parser.specs.declared.contract.ClauseWord.{ClauseWord}
 use Rattle.slang_parser.specs.declared.contract.ClauseWord.TheVariants.{Requiring, Ensuring}
 use Rattle.slang_tokens.specs.Tok.{Tok, sign}
@@ -62,16 +68,20 @@ IsPlain name = IsTrue (is_plain name.text)
 -- Expressions.
 
 abbrev pub operator_kind : Operator → TokenKind
+operator_kind Disjunction = kind.Bar
 operator_kind Conjunction = kind.Ampersand
 
 -- how tightly it binds, from 1 on. All join to the left.
 abbrev pub operator_level : Operator → ℕ
+operator_level Disjunction = 2
 operator_level Conjunction = 3
 
 pub data ExprText : Type 0 where
   truth : Place → ExprText
   falsity : Place → ExprText
   variable : Name → ExprText
+  result : Place → ExprText
+  bracketed : Place → ExprText → Place → ExprText
   negation : Place → ExprText → ExprText
   binary : ExprText → Operator → Place → ExprText → ExprText
 
@@ -79,44 +89,58 @@ abbrev pub expr_tokens : ExprText → List Tok
 expr_tokens (truth place) = sign kind.True place ∷ []
 expr_tokens (falsity place) = sign kind.False place ∷ []
 expr_tokens (variable n) = name_token n ∷ []
+expr_tokens (result place) = sign kind.Res place ∷ []
+expr_tokens (bracketed left inner right) = sign kind.LeftParen left ∷ expr_tokens inner ++ sign kind.RightParen right ∷ []
 expr_tokens (negation place operand) = sign kind.Bang place ∷ expr_tokens operand
 expr_tokens (binary left operator place right) = expr_tokens left ++ sign (operator_kind operator) place ∷ expr_tokens right
 
--- how tightly an expression holds together: a prefix binds tighter than each operator between two operands
+-- how tightly an expression holds together: a prefix binds tighter than each operator between two operands, and brackets
+-- hold together what is inside
 abbrev pub level : ExprText → ℕ
 level (truth place) = 10
 level (falsity place) = 10
 level (variable n) = 10
+level (result place) = 10
+level (bracketed left inner right) = 10
 level (negation place operand) = 9
 level (binary left operator place right) = operator_level operator
 
--- operands are grouped as the operators bind: `a & b & c` is `(a & b) & c`, and `!a & b` is `(!a) & b`
+-- operands are grouped as the operators bind: `a & b & c` is `(a & b) & c`, `a | b & c` is `a | (b & c)`, and `!a & b` is
+-- `(!a) & b`
 abbrev pub IsGrouped : ExprText → Type 0
 IsGrouped (truth place) = Unit {0}
 IsGrouped (falsity place) = Unit {0}
 IsGrouped (variable n) = IsPlain n
+IsGrouped (result place) = Unit {0}
+IsGrouped (bracketed left inner right) = IsGrouped inner
 IsGrouped (negation place operand) = (9 ≤ level operand) × IsGrouped operand
 IsGrouped (binary left operator place right) =
     (operator_level operator ≤ level left) × (operator_level operator < level right) × IsGrouped left × IsGrouped right
 
--- the place of an expression, that of its leftmost operand
+-- the place of an expression: that of the left operand where there are two, else that of its first token
 abbrev pub place_within : layer.Expr-F Expr → Place
 place_within (layer.True place) = place
 place_within (layer.False place) = place
 place_within (layer.Name n) = n.place
+place_within (layer.Res place) = place
 place_within (layer.Not place operand) = place
 place_within (layer.And place left right) = place
+place_within (layer.Or place left right) = place
 
 abbrev pub expr_place : Expr → Place
 expr_place expr = place_within (out-Expr expr)
 
 abbrev pub binary_tree : Operator → Expr → Expr → Expr
+binary_tree Disjunction left right = e.Or (expr_place left) left right
 binary_tree Conjunction left right = e.And (expr_place left) left right
 
+-- brackets leave nothing in the tree
 abbrev pub expr_tree : ExprText → Expr
 expr_tree (truth place) = e.True place
 expr_tree (falsity place) = e.False place
 expr_tree (variable n) = e.Name n
+expr_tree (result place) = e.Res place
+expr_tree (bracketed left inner right) = expr_tree inner
 expr_tree (negation place operand) = e.Not place (expr_tree operand)
 expr_tree (binary left operator place right) = binary_tree operator (expr_tree left) (expr_tree right)
 
@@ -185,6 +209,95 @@ Ascends least (clause ∷ more) = (least ≤ word_order clause.word) × Ascends 
 abbrev pub IsContract : ContractText → Type 0
 IsContract c = Ascends 0 (members c.clauses) × AllByRecursion IsClause (members c.clauses)
 
+-- Statements.
+
+-- the type of a `val`, behind its colon
+pub record TypeText : Type 0 where
+  pub colon : Place
+  pub ty : TypeName
+
+abbrev pub type_tokens : TypeText → List Tok
+type_tokens t = sign kind.Colon t.colon ∷ type_token t.ty ∷ []
+
+abbrev pub type_tree : TypeText → TypeName
+type_tree t = t.ty
+
+pub data StmtText : Type 0 where
+  -- `val name: ty = value`, where the type may be left out
+  val : (place : Place) (name : Name) (ty : Option TypeText) (equals : Place) (value : ExprText) → StmtText
+  -- `assert(claim)`
+  assert : (place left : Place) (claim : ExprText) (right : Place) → StmtText
+
+abbrev pub stmt_tokens : StmtText → List Tok
+stmt_tokens (val place name ty equals value) =
+    sign kind.Val place ∷ name_token name ∷ optional type_tokens ty ++ sign kind.Equals equals ∷ expr_tokens value
+stmt_tokens (assert place left claim right) =
+    sign kind.Assert place ∷ sign kind.LeftParen left ∷ expr_tokens claim ++ sign kind.RightParen right ∷ []
+
+abbrev pub IsStmt : StmtText → Type 0
+IsStmt (val place name ty equals value) = IsPlain name × IsGrouped value
+IsStmt (assert place left claim right) = IsGrouped claim
+
+-- the place of a statement is that of its word
+abbrev pub stmt_tree : StmtText → Stmt
+stmt_tree (val place name ty equals value) = statement.Val place name (option_map type_tree ty) (expr_tree value)
+stmt_tree (assert place left claim right) = statement.Assert place (expr_tree claim)
+
+-- Bodies.
+
+-- a contract, a statement, or a return
+pub data PartText : Type 0 where
+  contract_part : ContractText → PartText
+  stmt_part : StmtText → PartText
+  return_part : (place : Place) (value : ExprText) → PartText
+
+abbrev pub part_tokens : PartText → List Tok
+part_tokens (contract_part contract) = contract_tokens contract
+part_tokens (stmt_part stmt) = stmt_tokens stmt
+part_tokens (return_part place value) = sign kind.Return place ∷ expr_tokens value
+
+abbrev pub IsPart : PartText → Type 0
+IsPart (contract_part contract) = IsContract contract
+IsPart (stmt_part stmt) = IsStmt stmt
+IsPart (return_part place value) = IsGrouped value
+
+-- the word that a part begins with
+abbrev pub part_word : PartText → PartWord
+part_word (contract_part contract) = words.Contract
+part_word (stmt_part (val place name ty equals value)) = words.Val
+part_word (stmt_part (assert place left claim right)) = words.Assert
+part_word (return_part place value) = words.Return
+
+-- the contract stands first, then the statements, and the return last
+abbrev pub part_order : PartWord → ℕ
+part_order words.Contract = 0
+part_order words.Val = 1
+part_order words.Assert = 1
+part_order words.Return = 2
+
+-- the least order of what may stand behind: there is at most one contract, and at most one return
+abbrev pub order_behind : PartWord → ℕ
+order_behind words.Contract = 1
+order_behind words.Val = 1
+order_behind words.Assert = 1
+order_behind words.Return = 3
+
+-- these parts stand in order, from the least on
+abbrev pub InOrder : ℕ → List PartText → Type 0
+InOrder least [] = Unit {0}
+InOrder least (part ∷ more) = (least ≤ part_order (part_word part)) × InOrder (order_behind (part_word part)) more
+
+-- The parts of a body, each ended by a newline, but for the last, where the newline may be missing. The tokens of a text
+-- have none before a closing brace.
+abbrev pub BodyText : Type 0
+BodyText = Listed PartText
+
+abbrev pub body_tokens : BodyText → List Tok
+body_tokens b = listed kind.Newline part_tokens b
+
+abbrev pub IsBody : BodyText → Type 0
+IsBody b = InOrder 0 (members b) × AllByRecursion IsPart (members b)
+
 -- Methods.
 
 pub record MethodText : Type 0 where
@@ -197,21 +310,17 @@ pub record MethodText : Type 0 where
   pub result_type : TypeName
   pub equals : Place
   pub begin : Place
-  pub contract : Option ContractText
+  pub body : BodyText
   pub end : Place
 
 abbrev pub method_tokens : MethodText → List Tok
 method_tokens m =
     sign kind.Def m.word_place ∷ name_token m.name ∷ sign kind.LeftParen m.left ∷ listed kind.Comma param_tokens m.params
     ++ sign kind.RightParen m.right ∷ sign kind.Colon m.colon ∷ type_token m.result_type ∷ sign kind.Equals m.equals
-    ∷ sign kind.LeftBrace m.begin ∷ optional contract_tokens m.contract ++ sign kind.RightBrace m.end ∷ []
-
-abbrev pub IsOptional : {A : Type 0} → (A → Type 0) → Option A → Type 0
-IsOptional P None = Unit {0}
-IsOptional P (Some part) = P part
+    ∷ sign kind.LeftBrace m.begin ∷ body_tokens m.body ++ sign kind.RightBrace m.end ∷ []
 
 abbrev pub IsMethod : MethodText → Type 0
-IsMethod m = IsPlain m.name × AllByRecursion IsParam (members m.params) × IsOptional IsContract m.contract
+IsMethod m = IsPlain m.name × AllByRecursion IsParam (members m.params) × IsBody m.body
 
 -- a method with one more clause
 abbrev pub with_clause : MethodDecl → ClauseWord → List Expr → MethodDecl
@@ -222,16 +331,30 @@ abbrev pub with_clauses : MethodDecl → List ClauseText → MethodDecl
 with_clauses method [] = method
 with_clauses method (clause ∷ more) = with_clauses (with_clause method clause.word (claim_trees clause)) more
 
--- a method without a contract
-abbrev pub bare_method : Name → List Param → TypeName → MethodDecl
-bare_method name params ty = record { name = name; params = params; result = ty; requires_ = []; ensures_ = [] }
+-- a method with one more statement
+abbrev pub with_stmt : MethodDecl → Stmt → MethodDecl
+with_stmt method stmt = record method { body = method.body ++ stmt ∷ [] }
 
-abbrev pub with_contract : MethodDecl → Option ContractText → MethodDecl
-with_contract method None = method
-with_contract method (Some contract) = with_clauses method (members contract.clauses)
+-- a method with a return
+abbrev pub with_return : MethodDecl → Return → MethodDecl
+with_return method returned = record method { returned = Some returned }
+
+abbrev pub with_part : MethodDecl → PartText → MethodDecl
+with_part method (contract_part contract) = with_clauses method (members contract.clauses)
+with_part method (stmt_part stmt) = with_stmt method (stmt_tree stmt)
+with_part method (return_part place value) = with_return method (record { place = place; value = expr_tree value })
+
+abbrev pub with_parts : MethodDecl → List PartText → MethodDecl
+with_parts method [] = method
+with_parts method (part ∷ more) = with_parts (with_part method part) more
+
+-- a method with nothing in its body
+abbrev pub bare_method : Name → List Param → TypeName → MethodDecl
+bare_method name params ty =
+    record { name = name; params = params; result = ty; requires_ = []; ensures_ = []; body = []; returned = None }
 
 abbrev pub method_tree : MethodText → MethodDecl
-method_tree m = with_contract (bare_method m.name (map param_tree (members m.params)) m.result_type) m.contract
+method_tree m = with_parts (bare_method m.name (map param_tree (members m.params)) m.result_type) (members m.body)
 
 -- Texts.
 

@@ -9,6 +9,9 @@ use Rattle.lk_ast.specs.declared.tree.Decl.{Decl}
 use Rattle.lk_ast.specs.declared.tree.Decl.TheVariants.{Method}
 use Rattle.lk_ast.specs.declared.tree.MethodDecl.{MethodDecl}
 use Rattle.lk_ast.specs.declared.tree.Param.{Param}
+use Rattle.lk_ast.specs.declared.tree.Stmt.{Stmt}
+use Rattle.lk_ast.specs.declared.tree.Stmt.TheVariants as statement
+use Rattle.lk_ast.specs.declared.tree.Return.{Return}
 use Rattle.lk_ast.specs.declared.tree.TypeName.{TypeName}
 use Rattle.lk_ast.specs.declared.tree.TypeName.TheVariants.{B, Unit as UnitType}
 use Rattle.lk_ast.specs.declared.tree.Expr.{Expr}
@@ -17,14 +20,17 @@ use Rattle.slang_lexer.specs.declared.token.TokenKind.{TokenKind}
 use Rattle.slang_lexer.specs.declared.token.TokenKind.TheVariants as kind
 use Rattle.slang_tokens.specs.Tok.{Tok, same_kind}
 use Rattle.slang_parser.specs.declared.operator.Operator.{Operator}
-use Rattle.slang_parser.specs.declared.operator.Operator.TheVariants.{Conjunction}
+use Rattle.slang_parser.specs.declared.operator.Operator.TheVariants.{Disjunction, Conjunction}
+use Rattle.slang_parser.specs.declared.body.PartWord.{PartWord}
+use Rattle.slang_parser.specs.declared.body.PartWord.TheVariants as words
 use Rattle.slang_parser.specs.declared.contract.ClauseWord.{ClauseWord}
 use Rattle.slang_parser.specs.declared.contract.ClauseWord.TheVariants.{Requiring, Ensuring}
-use Rattle.slang_parser.specs.Grammar.{is_plain, operator_level, binary_tree, word_order, with_clause, bare_method}
+use Rattle.slang_parser.specs.Grammar.{is_plain, operator_level, binary_tree, word_order, part_order, with_clause, with_stmt, with_return, bare_method}
 
--- what is open around an operand: prefixes, and operators that wait for their right operand
+-- what is open around an operand: brackets, prefixes, and operators that wait for their right operand
 pub data Around : Type 0 where
   alone : Around
+  inside : Around → Around
   negated : Place → Around → Around
   right_of : Expr → Operator → Around → Around
 
@@ -33,9 +39,10 @@ pub record Grown : Type 0 where
   pub expr : Expr
   pub around : Around
 
--- the operand, grown by the prefixes and by the operators from this level on
+-- the operand, grown by the prefixes and by the operators from this level on, up to an open bracket
 abbrev pub close : ℕ → Expr → Around → Grown
 close least expr alone = record { expr = expr; around = alone }
+close least expr (inside around) = record { expr = expr; around = inside around }
 close least expr (negated place around) = close least (e.Not place expr) around
 close least expr (right_of left operator around) =
     if nat_le least (operator_level operator) then close least (binary_tree operator left expr) around
@@ -58,6 +65,19 @@ with_claim at claim = record at { claims = at.claims ++ claim ∷ [] }
 abbrev pub with_claims : Claims → Draft
 with_claims at = record { done = at.draft.done; method = with_clause at.draft.method at.word at.claims }
 
+abbrev pub with_draft_stmt : Draft → Stmt → Draft
+with_draft_stmt draft stmt = record { done = draft.done; method = with_stmt draft.method stmt }
+
+abbrev pub with_draft_return : Draft → Return → Draft
+with_draft_return draft returned = record { done = draft.done; method = with_return draft.method returned }
+
+-- what an expression is read for
+pub data Purpose : Type 0 where
+  claim_of : Claims → Purpose
+  value_of : Draft → (place : Place) → Name → Option TypeName → Purpose
+  assertion_of : Draft → (place : Place) → Purpose
+  return_of : Draft → (place : Place) → Purpose
+
 -- what may come next
 pub data State : Type 0 where
   top : List Decl → State
@@ -72,15 +92,20 @@ pub data State : Type 0 where
   result_type : List Decl → Name → List Param → State
   equals : Draft → State
   begin : Draft → State
-  body : Draft → State
+  part_or_end : Draft → ℕ → State
+  part_end : Draft → ℕ → State
+  val_name : Draft → (place : Place) → State
+  val_type_or_equals : Draft → (place : Place) → Name → State
+  val_type : Draft → (place : Place) → Name → State
+  val_equals : Draft → (place : Place) → Name → Option TypeName → State
+  assert_due : Draft → (place : Place) → State
   clauses_due : Draft → State
   clause_or_end : Draft → ℕ → State
   claims_due : Draft → ClauseWord → State
-  want : Around → Claims → State
-  have : Expr → Around → Claims → State
+  want : Around → Purpose → State
+  have : Expr → Around → Purpose → State
   claim_or_end : Claims → State
   clause_end : Draft → ℕ → State
-  body_end : Draft → State
 
 abbrev pub is : TokenKind → Tok → Bool
 is k token = same_kind token.kind k
@@ -101,31 +126,70 @@ abbrev pub word_of : Tok → Option ClauseWord
 word_of token = if is kind.Requires token then Some Requiring else on (is kind.Ensures token) Ensuring
 
 abbrev pub operator_of : Tok → Option Operator
-operator_of token = on (is kind.Ampersand token) Conjunction
+operator_of token = if is kind.Bar token then Some Disjunction else on (is kind.Ampersand token) Conjunction
+
+abbrev pub part_word_of : Tok → Option PartWord
+part_word_of token =
+    if is kind.Contract token then Some words.Contract
+    else (if is kind.Val token then Some words.Val
+    else (if is kind.Assert token then Some words.Assert
+    else on (is kind.Return token) words.Return))
 
 -- an operand is due
-abbrev pub next_operand : Around → Claims → Tok → Option State
+abbrev pub next_operand : Around → Purpose → Tok → Option State
 next_operand around at token =
     if is kind.True token then Some (have (e.True token.place) around at)
     else (if is kind.False token then Some (have (e.False token.place) around at)
+    else (if is kind.Res token then Some (have (e.Res token.place) around at)
     else (if is_name token then Some (have (e.Name (name_of token)) around at)
-    else on (is kind.Bang token) (want (negated token.place around) at)))
+    else (if is kind.Bang token then Some (want (negated token.place around) at)
+    else on (is kind.LeftParen token) (want (inside around) at)))))
 
--- a claim has come to its end
+-- a claim of a clause has come to its end
 abbrev pub next_claim : Claims → Tok → Option State
 next_claim at token =
     if is kind.Comma token then Some (claim_or_end at)
     else on (is kind.RightParen token) (clause_end (with_claims at) (suc (word_order at.word)))
 
+-- a part of a body has come to its end
+abbrev pub next_part_end : Draft → ℕ → Tok → Option State
+next_part_end draft least token =
+    if is kind.Newline token then Some (part_or_end draft least) else on (is kind.RightBrace token) (ended (draft.done ++ Method draft.method ∷ []))
+
+-- an expression has come to its end
+abbrev pub next_whole : Expr → Purpose → Tok → Option State
+next_whole expr (claim_of at) token = next_claim (with_claim at expr) token
+next_whole expr (value_of draft place name ty) token = next_part_end (with_draft_stmt draft (statement.Val place name ty expr)) 1 token
+next_whole expr (assertion_of draft place) token = on (is kind.RightParen token) (part_end (with_draft_stmt draft (statement.Assert place expr)) 1)
+next_whole expr (return_of draft place) token = next_part_end (with_draft_return draft (record { place = place; value = expr })) 3 token
+
+-- no operator goes on with the expression
+abbrev pub next_behind : Expr → Around → Purpose → Tok → Option State
+next_behind expr alone at token = next_whole expr at token
+next_behind expr (inside around) at token = on (is kind.RightParen token) (have expr around at)
+next_behind expr (negated place around) at token = None
+next_behind expr (right_of left operator around) at token = None
+
 -- an operand has been read
-abbrev pub next_operator : Expr → Around → Claims → Tok → Option Operator → Option State
+abbrev pub next_operator : Expr → Around → Purpose → Tok → Option Operator → Option State
 next_operator expr around at token (Some operator) =
     let grown = close (operator_level operator) expr around in Some (want (right_of grown.expr operator grown.around) at)
-next_operator expr around at token None = next_claim (with_claim at (close 0 expr around).expr) token
+next_operator expr around at token None = let grown = close 0 expr around in next_behind grown.expr grown.around at token
 
 abbrev pub next_clause : Draft → ℕ → Option ClauseWord → Option State
 next_clause draft least (Some word) = on (nat_le least (word_order word)) (claims_due draft word)
 next_clause draft least None = None
+
+-- what a part goes on with behind its word
+abbrev pub part_due : Draft → Place → PartWord → State
+part_due draft place words.Contract = clauses_due draft
+part_due draft place words.Val = val_name draft place
+part_due draft place words.Assert = assert_due draft place
+part_due draft place words.Return = want alone (return_of draft place)
+
+abbrev pub next_part : Draft → ℕ → Place → Option PartWord → Option State
+next_part draft least place (Some word) = on (nat_le least (part_order word)) (part_due draft place word)
+next_part draft least place None = None
 
 abbrev pub with_param : List Decl → Name → List Param → Name → TypeName → State
 with_param done name params param ty = param_end done name (params ++ record { name = param; ty = ty } ∷ [])
@@ -144,20 +208,26 @@ next (param_end done name params) token =
 next (result_colon done name params) token = on (is kind.Colon token) (result_type done name params)
 next (result_type done name params) token = option_map (λ ty. equals (record { done = done; method = bare_method name params ty })) (type_of token)
 next (equals draft) token = on (is kind.Equals token) (begin draft)
-next (begin draft) token = on (is kind.LeftBrace token) (body draft)
-next (body draft) token =
-    if is kind.RightBrace token then Some (ended (draft.done ++ Method draft.method ∷ [])) else on (is kind.Contract token) (clauses_due draft)
+next (begin draft) token = on (is kind.LeftBrace token) (part_or_end draft 0)
+next (part_or_end draft least) token =
+    if is kind.RightBrace token then Some (ended (draft.done ++ Method draft.method ∷ [])) else next_part draft least token.place (part_word_of token)
+next (part_end draft least) token = next_part_end draft least token
+next (val_name draft place) token = on (is_name token) (val_type_or_equals draft place (name_of token))
+next (val_type_or_equals draft place name) token =
+    if is kind.Colon token then Some (val_type draft place name) else on (is kind.Equals token) (want alone (value_of draft place name None))
+next (val_type draft place name) token = option_map (λ ty. val_equals draft place name (Some ty)) (type_of token)
+next (val_equals draft place name ty) token = on (is kind.Equals token) (want alone (value_of draft place name ty))
+next (assert_due draft place) token = on (is kind.LeftParen token) (want alone (assertion_of draft place))
 next (clauses_due draft) token = on (is kind.LeftParen token) (clause_or_end draft 0)
 next (clause_or_end draft least) token =
-    if is kind.RightParen token then Some (body_end draft) else next_clause draft least (word_of token)
-next (claims_due draft word) token = on (is kind.LeftParen token) (want alone (record { draft = draft; word = word; claims = [] }))
+    if is kind.RightParen token then Some (part_end draft 1) else next_clause draft least (word_of token)
+next (claims_due draft word) token = on (is kind.LeftParen token) (want alone (claim_of (record { draft = draft; word = word; claims = [] })))
 next (want around at) token = next_operand around at token
 next (have expr around at) token = next_operator expr around at token (operator_of token)
 next (claim_or_end at) token =
-    if is kind.RightParen token then Some (clause_end (with_claims at) (suc (word_order at.word))) else next_operand alone at token
+    if is kind.RightParen token then Some (clause_end (with_claims at) (suc (word_order at.word))) else next_operand alone (claim_of at) token
 next (clause_end draft least) token =
-    if is kind.Comma token then Some (clause_or_end draft least) else on (is kind.RightParen token) (body_end draft)
-next (body_end draft) token = on (is kind.RightBrace token) (ended (draft.done ++ Method draft.method ∷ []))
+    if is kind.Comma token then Some (clause_or_end draft least) else on (is kind.RightParen token) (part_end draft 1)
 
 -- the text at its end
 abbrev pub finish : State → Option File

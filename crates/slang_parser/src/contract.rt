@@ -1,10 +1,11 @@
 ghost use Rattle.std.specs.Prelude.{◌≡◌, [], ◌<◌, ◌≤◌, ◌+◌, ℕ, suc, length, IfOk, IfErr, IsTrue, List};
 ghost use Rattle.slang_tokens.specs.Tok.{tok, toks};
 ghost use Rattle.slang_parser.specs.Grammar.{word_order, with_clause};
-ghost use Rattle.slang_parser.specs.Machine.{Draft, State, alone, want, word_of, clauses_due, clause_or_end, claims_due, clause_end, body_end, with_claims};
+ghost use Rattle.slang_parser.specs.Machine.{Draft, State, alone, want, word_of, clauses_due, clause_or_end, claims_due, clause_end, part_end, with_claims, claim_of};
 ghost use Rattle.slang_parser.specs.Gives.{IfRefused, Moves, Refuses, Expects};
 ghost use Rattle.slang_parser.specs.declared.contract.ClauseWord.{ClauseWord as Word};
 ghost use Rattle.slang_parser.specs.Lists.{begins_member};
+ghost use Rattle.slang_lexer.specs.declared.token.TokenKind.TheVariants as kind;
 ghost use Rattle.lk_ast.specs.declared.tree.Decl.{Decl as Done};
 
 use crate::cursor::{expect, first, is};
@@ -53,19 +54,19 @@ fn claims<'t, 'a>(
     tokens: &'t [Lexeme<'a>],
 ) -> Result<(Items<Expr>, &'t [Lexeme<'a>]), Stop>
     ensures reads { IfOk result (λ r. (draft : Draft) (word : Word) →
-        Moves tokens.now (want alone (record { draft = draft; word = word; claims = [] })) r.1.now (clause_end (with_claims (record { draft = draft; word = word; claims = r.0 })) (suc (word_order word)))) }
+        Moves tokens.now (want alone (claim_of (record { draft = draft; word = word; claims = [] }))) r.1.now (clause_end (with_claims (record { draft = draft; word = word; claims = r.0 })) (suc (word_order word)))) }
     ensures shorter { IfOk result (λ r. length r.1.now ≤ length tokens.now) }
-    ensures refused { IfErr result (λ stop. IfRefused stop ((draft : Draft) (word : Word) → Refuses tokens.now (want alone (record { draft = draft; word = word; claims = [] })))) }
+    ensures refused { IfErr result (λ stop. IfRefused stop ((draft : Draft) (word : Word) → Refuses tokens.now (want alone (claim_of (record { draft = draft; word = word; claims = [] }))))) }
 {
     let mut claims = Items::new(alloc);
-    let (mut more, mut rest) = member_or_end(tokens);
+    let (mut more, mut rest) = member_or_end(TokenKind::RightParen, tokens);
     if !more {
         return Err(Stop::Refused);
     }
     'claims: while more {
         let (claim, behind) = expression(alloc, 1, rest)?;
         claims.push(claim)?;
-        (more, rest) = member_end(behind)?;
+        (more, rest) = member_end(TokenKind::Comma, TokenKind::RightParen, behind)?;
     }
     Ok((claims, rest))
 }
@@ -84,6 +85,8 @@ fn with_clause(
         result: ty,
         mut requires_,
         mut ensures_,
+        body,
+        returned,
     } = method;
     match word {
         ClauseWord::Requiring => requires_.append(claims)?,
@@ -95,6 +98,8 @@ fn with_clause(
         result: ty,
         requires_,
         ensures_,
+        body,
+        returned,
     })
 }
 
@@ -103,7 +108,7 @@ fn clause_word<'t, 'a>(
     least: u8,
     tokens: &'t [Lexeme<'a>],
 ) -> Result<(ClauseWord, &'t [Lexeme<'a>]), Stop>
-    requires { IsTrue (begins_member (toks tokens.now)) }
+    requires { IsTrue (begins_member kind.RightParen (toks tokens.now)) }
     ensures reads { IfOk result (λ r. (draft : Draft) → Moves tokens.now (clause_or_end draft least) r.1.now (claims_due draft r.0)) }
     ensures shorter { IfOk result (λ r. length r.1.now < length tokens.now) }
     ensures refused { IfErr result (λ stop. IfRefused stop ((draft : Draft) → Refuses tokens.now (clause_or_end draft least))) }
@@ -125,7 +130,7 @@ fn clause<'t, 'a>(
     least: u8,
     tokens: &'t [Lexeme<'a>],
 ) -> Result<(MethodDecl, u8, &'t [Lexeme<'a>]), Stop>
-    requires { IsTrue (begins_member (toks tokens.now)) }
+    requires { IsTrue (begins_member kind.RightParen (toks tokens.now)) }
     ensures reads { IfOk result (λ r. (done : List Done) →
         Moves tokens.now (clause_or_end (record { done = done; method = method }) least) r.2.now (clause_end (record { done = done; method = r.0 }) r.1)) }
     ensures shorter { IfOk result (λ r. length r.2.now < length tokens.now) }
@@ -144,19 +149,19 @@ pub fn contract<'t, 'a>(
     tokens: &'t [Lexeme<'a>],
 ) -> Result<(MethodDecl, &'t [Lexeme<'a>]), Stop>
     ensures reads { IfOk result (λ r. (done : List Done) →
-        Moves tokens.now (clauses_due (record { done = done; method = method })) r.1.now (body_end (record { done = done; method = r.0 }))) }
+        Moves tokens.now (clauses_due (record { done = done; method = method })) r.1.now (part_end (record { done = done; method = r.0 }) 1)) }
     ensures shorter { IfOk result (λ r. length r.1.now < length tokens.now) }
     ensures refused { IfErr result (λ stop. IfRefused stop ((done : List Done) → Refuses tokens.now (clauses_due (record { done = done; method = method })))) }
 {
     let inside = expect(TokenKind::LeftParen, tokens)?;
     let mut method = method;
     let mut least = 0;
-    let (mut more, mut rest) = member_or_end(inside);
+    let (mut more, mut rest) = member_or_end(TokenKind::RightParen, inside);
     'clauses: while more {
         let (with_one, next, behind) = clause(alloc, method, least, rest)?;
         method = with_one;
         least = next;
-        (more, rest) = member_end(behind)?;
+        (more, rest) = member_end(TokenKind::Comma, TokenKind::RightParen, behind)?;
     }
     Ok((method, rest))
 }

@@ -47,9 +47,9 @@ pub fn name_of(alloc: Global, token: &Lexeme<'_>) -> Result<Name, AllocError>
 
 /// The tokens behind one of this kind.
 pub fn expect<'t, 'a>(kind: TokenKind, tokens: &'t [Lexeme<'a>]) -> Result<&'t [Lexeme<'a>], Stop>
-    ensures reads { IfOk result (λ rest. (from to : State) → Expects kind from to → Moves tokens.now from rest.now to) }
+    ensures reads { IfOk result (λ rest. (from to : State) → Expects kind (toks tokens.now) from to → Moves tokens.now from rest.now to) }
     ensures shorter { IfOk result (λ rest. length rest.now < length tokens.now) }
-    ensures refused { IfErr result (λ stop. IfRefused stop ((from to : State) → Expects kind from to → Refuses tokens.now from)) }
+    ensures refused { IfErr result (λ stop. IfRefused stop ((from to : State) → Expects kind (toks tokens.now) from to → Refuses tokens.now from)) }
 {
     let (token, rest) = first(tokens)?;
     if !is(kind, token) {

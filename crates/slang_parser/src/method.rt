@@ -1,48 +1,24 @@
 ghost use Rattle.std.specs.Prelude.{◌≡◌, ◌<◌, ◌≤◌, ◌++◌, ◌∷◌, [], length, IfOk, IfErr, IsTrue, List};
 ghost use Rattle.slang_tokens.specs.Tok.{toks};
 ghost use Rattle.slang_parser.specs.Grammar.{bare_method};
-ghost use Rattle.slang_parser.specs.Machine.{State, top, naming, params_due, param_or_end, param_end, param_colon, param_type, result_colon, result_type, equals, begin, body, ended, with_param, type_of};
+ghost use Rattle.slang_parser.specs.Machine.{State, top, naming, params_due, param_or_end, param_end, param_colon, param_type, result_colon, result_type, equals, begin, part_or_end, ended, with_param};
 ghost use Rattle.slang_parser.specs.Gives.{IfRefused, Moves, Refuses, Expects};
 ghost use Rattle.slang_parser.specs.Lists.{begins_member};
 ghost use Rattle.lk_ast.specs.declared.tree.Decl.{Decl as Done};
 ghost use Rattle.lk_ast.specs.declared.tree.Name.{Name as DoneName};
 ghost use Rattle.lk_ast.specs.declared.tree.Param.{Param as DoneParam};
-ghost use Rattle.slang_tokens.specs.Tok.{tok};
+ghost use Rattle.slang_lexer.specs.declared.token.TokenKind.TheVariants as kind;
 
-use crate::contract::contract;
-use crate::cursor::{expect, first, is, is_name, name_of};
+use crate::body::body;
+use crate::cursor::{expect, first, is};
 use crate::list::{member_end, member_or_end};
+use crate::name::{name, type_name};
 use crate::stop::Stop;
-use lk_ast::{Decl, MethodDecl, Name, Param, TypeName};
+use lk_ast::{Decl, MethodDecl, Param, TypeName};
 use slang_lexer::TokenKind;
 use slang_tokens::Lexeme;
 use sqlite_items::Items;
 use std::alloc::Global;
-
-/// The type that a token is.
-fn type_of(token: &Lexeme<'_>) -> Option<TypeName>
-    ensures { result ≡ type_of (tok token.now) }
-{
-    if is(TokenKind::TypeB, token) {
-        return Some(TypeName::B(token.place));
-    }
-    is(TokenKind::TypeUnit, token).then_some(TypeName::Unit(token.place))
-}
-
-/// A name that a declaration may have.
-fn name<'t, 'a>(alloc: Global, tokens: &'t [Lexeme<'a>]) -> Result<(Name, &'t [Lexeme<'a>]), Stop>
-    ensures method { IfOk result (λ r. (done : List Done) → Moves tokens.now (naming done) r.1.now (params_due done r.0)) }
-    ensures param { IfOk result (λ r. IsTrue (begins_member (toks tokens.now)) → (done : List Done) (name : DoneName) (params : List DoneParam) → Moves tokens.now (param_or_end done name params) r.1.now (param_colon done name params r.0)) }
-    ensures shorter { IfOk result (λ r. length r.1.now < length tokens.now) }
-    ensures refused_method { IfErr result (λ stop. IfRefused stop ((done : List Done) → Refuses tokens.now (naming done))) }
-    ensures refused_param { IfErr result (λ stop. IfRefused stop (IsTrue (begins_member (toks tokens.now)) → (done : List Done) (name : DoneName) (params : List DoneParam) → Refuses tokens.now (param_or_end done name params))) }
-{
-    let (token, rest) = first(tokens)?;
-    if !is_name(token) {
-        return Err(Stop::Refused);
-    }
-    Ok((name_of(alloc, token)?, rest))
-}
 
 /// A colon, and the type behind it.
 fn colon_type<'t, 'a>(tokens: &'t [Lexeme<'a>]) -> Result<(TypeName, &'t [Lexeme<'a>]), Stop>
@@ -52,15 +28,8 @@ fn colon_type<'t, 'a>(tokens: &'t [Lexeme<'a>]) -> Result<(TypeName, &'t [Lexeme
     ensures refused_param { IfErr result (λ stop. IfRefused stop ((done : List Done) (name : DoneName) (params : List DoneParam) (param : DoneName) → Refuses tokens.now (param_colon done name params param))) }
     ensures refused_method { IfErr result (λ stop. IfRefused stop ((done : List Done) (name : DoneName) (params : List DoneParam) → Refuses tokens.now (result_colon done name params))) }
 {
-    let (colon, behind) = first(tokens)?;
-    if !is(TokenKind::Colon, colon) {
-        return Err(Stop::Refused);
-    }
-    let (token, rest) = first(behind)?;
-    let Some(ty) = type_of(token) else {
-        return Err(Stop::Refused);
-    };
-    Ok((ty, rest))
+    let behind = expect(TokenKind::Colon, tokens)?;
+    type_name(behind)
 }
 
 /// The parameters of a method, from behind the opening bracket up to the closing one.
@@ -73,18 +42,18 @@ fn params<'t, 'a>(
     ensures refused { IfErr result (λ stop. IfRefused stop ((done : List Done) (name : DoneName) → Refuses tokens.now (param_or_end done name []))) }
 {
     let mut params = Items::new(alloc);
-    let (mut more, mut rest) = member_or_end(tokens);
+    let (mut more, mut rest) = member_or_end(TokenKind::RightParen, tokens);
     'params: while more {
         let (param, behind) = param(alloc, rest)?;
         params.push(param)?;
-        (more, rest) = member_end(behind)?;
+        (more, rest) = member_end(TokenKind::Comma, TokenKind::RightParen, behind)?;
     }
     Ok((params, rest))
 }
 
 /// A parameter.
 fn param<'t, 'a>(alloc: Global, tokens: &'t [Lexeme<'a>]) -> Result<(Param, &'t [Lexeme<'a>]), Stop>
-    requires { IsTrue (begins_member (toks tokens.now)) }
+    requires { IsTrue (begins_member kind.RightParen (toks tokens.now)) }
     ensures reads { IfOk result (λ r. (done : List Done) (name : DoneName) (params : List DoneParam) → Moves tokens.now (param_or_end done name params) r.1.now (param_end done name (params ++ r.0 ∷ []))) }
     ensures shorter { IfOk result (λ r. length r.1.now < length tokens.now) }
     ensures refused { IfErr result (λ stop. IfRefused stop ((done : List Done) (name : DoneName) (params : List DoneParam) → Refuses tokens.now (param_or_end done name params))) }
@@ -94,12 +63,12 @@ fn param<'t, 'a>(alloc: Global, tokens: &'t [Lexeme<'a>]) -> Result<(Param, &'t 
     Ok((Param { name, ty }, rest))
 }
 
-/// The head of a method, from behind its `def` up to the brace that opens its body: the method without a contract.
+/// The head of a method, from behind its `def` up to the brace that opens its body: the method with nothing in it.
 fn head<'t, 'a>(
     alloc: Global,
     tokens: &'t [Lexeme<'a>],
 ) -> Result<(MethodDecl, &'t [Lexeme<'a>]), Stop>
-    ensures reads { IfOk result (λ r. (done : List Done) → Moves tokens.now (naming done) r.1.now (body (record { done = done; method = r.0 }))) }
+    ensures reads { IfOk result (λ r. (done : List Done) → Moves tokens.now (naming done) r.1.now (part_or_end (record { done = done; method = r.0 }) 0)) }
     ensures shorter { IfOk result (λ r. length r.1.now < length tokens.now) }
     ensures refused { IfErr result (λ stop. IfRefused stop ((done : List Done) → Refuses tokens.now (naming done))) }
 {
@@ -115,29 +84,9 @@ fn head<'t, 'a>(
         result: ty,
         requires_: Items::new(alloc),
         ensures_: Items::new(alloc),
+        body: Items::new(alloc),
+        returned: None,
     };
-    Ok((method, rest))
-}
-
-/// The body of a method, from behind the brace that opens it up to the one that closes it.
-fn body<'t, 'a>(
-    alloc: Global,
-    method: MethodDecl,
-    tokens: &'t [Lexeme<'a>],
-) -> Result<(MethodDecl, &'t [Lexeme<'a>]), Stop>
-    ensures reads { IfOk result (λ r. (done : List Done) → Moves tokens.now (body (record { done = done; method = method })) r.1.now (ended (done ++ Decl.Method r.0 ∷ []))) }
-    ensures shorter { IfOk result (λ r. length r.1.now < length tokens.now) }
-    ensures refused { IfErr result (λ stop. IfRefused stop ((done : List Done) → Refuses tokens.now (body (record { done = done; method = method })))) }
-{
-    let (token, rest) = first(tokens)?;
-    if is(TokenKind::RightBrace, token) {
-        return Ok((method, rest));
-    }
-    if !is(TokenKind::Contract, token) {
-        return Err(Stop::Refused);
-    }
-    let (method, end) = contract(alloc, method, rest)?;
-    let rest = expect(TokenKind::RightBrace, end)?;
     Ok((method, rest))
 }
 

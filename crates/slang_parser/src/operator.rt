@@ -13,6 +13,8 @@ use std::alloc::{AllocError, Global};
 /// An operator between two operands.
 #[derive(Clone, Copy, Debug, PartialEq, Eq)]
 pub enum Operator {
+    /// `|`
+    Disjunction,
     /// `&`
     Conjunction,
 }
@@ -24,6 +26,7 @@ impl Operator {
         ensures small { result ≤ 8 }
     {
         match self {
+            Operator::Disjunction => 2,
             Operator::Conjunction => 3,
         }
     }
@@ -33,6 +36,9 @@ impl Operator {
 pub fn operator_of(token: &Lexeme<'_>) -> Option<Operator>
     ensures { result ≡ operator_of (tok token.now) }
 {
+    if is(TokenKind::Bar, token) {
+        return Some(Operator::Disjunction);
+    }
     is(TokenKind::Ampersand, token).then_some(Operator::Conjunction)
 }
 
@@ -49,6 +55,7 @@ pub fn binary(
     let left = Boxed::new(alloc, left)?;
     let right = Boxed::new(alloc, right)?;
     Ok(match operator {
+        Operator::Disjunction => Expr::Or(place, left, right),
         Operator::Conjunction => Expr::And(place, left, right),
     })
 }
@@ -58,8 +65,8 @@ fn place_of(expr: &Expr) -> Place
     ensures { result ≡ expr_place expr.now }
 {
     match expr {
-        Expr::True(place) | Expr::False(place) => *place,
+        Expr::True(place) | Expr::False(place) | Expr::Res(place) => *place,
         Expr::Name(name) => name.place,
-        Expr::Not(place, _) | Expr::And(place, _, _) => *place,
+        Expr::Not(place, _) | Expr::And(place, _, _) | Expr::Or(place, _, _) => *place,
     }
 }

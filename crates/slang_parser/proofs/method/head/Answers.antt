@@ -1,9 +1,10 @@
-use Rattle.std.proofs.Common.{[], List, ap, ◌∙◌, sym, refl}
+use Rattle.std.proofs.Common.{[], List, None, ap, ◌∙◌, sym, refl}
 use Rattle.lk_ast.specs.declared.tree.Expr.{Expr}
+use Rattle.lk_ast.specs.declared.tree.Stmt.{Stmt}
 use Rattle.slang_lexer.specs.declared.token.TokenKind.TheVariants as kind
 use Rattle.slang_tokens.specs.Tok.{toks}
 use Rattle.slang_parser.specs.Grammar.{bare_method}
-use Rattle.slang_parser.specs.Machine.{Draft, params_due, param_or_end, equals, begin, body, run}
+use Rattle.slang_parser.specs.Machine.{Draft, params_due, param_or_end, equals, begin, part_or_end, run}
 use Rattle.slang_parser.proofs.Exits.{passed_on, expects}
 use Rattle.slang_parser.proofs.method.head.Goals as goal
 
@@ -47,17 +48,18 @@ returns-in_err-rest-clause-refused c =
     ∙ c.in_ok-params.ensures.reads done c.in_ok-name.name
     ∙ c.in_ok-ty.ensures.method done c.in_ok-name.name c.in_ok-params.params
     ∙ c.in_ok-equals.ensures.reads (equals draft) (begin draft) (expects kind.Equals _ _ refl (λ token. refl))
-    ∙ none (begin draft) (body draft) (expects kind.LeftBrace _ _ refl (λ token. refl)))
+    ∙ none (begin draft) (part_or_end draft 0) (expects kind.LeftBrace _ _ refl (λ token. refl)))
 
 pub returns-clause-reads : goal.returns-clause-reads
 returns-clause-reads c = λ done.
-    let bare : List Expr → List Expr → Draft = λ r e. record { done = done; method = record { name = c.in_ok-name.name; params = c.in_ok-params.params; result = c.in_ok-ty.ty; requires_ = r; ensures_ = e } } in
-    let draft : Draft = bare [] [] in
+    let bare : List Expr → List Expr → List Stmt → Draft = λ r e b. record { done = done; method = record { name = c.in_ok-name.name; params = c.in_ok-params.params; result = c.in_ok-ty.ty; requires_ = r; ensures_ = e; body = b; returned = None } } in
+    let draft : Draft = bare [] [] [] in
     c.in_ok-name.ensures.method done
     ∙ c.in_ok-inside.ensures.reads (params_due done c.in_ok-name.name) (param_or_end done c.in_ok-name.name []) (expects kind.LeftParen _ _ refl (λ token. refl))
     ∙ c.in_ok-params.ensures.reads done c.in_ok-name.name
     ∙ c.in_ok-ty.ensures.method done c.in_ok-name.name c.in_ok-params.params
     ∙ c.in_ok-equals.ensures.reads (equals draft) (begin draft) (expects kind.Equals _ _ refl (λ token. refl))
-    ∙ c.in_ok-rest.ensures.reads (begin draft) (body draft) (expects kind.LeftBrace _ _ refl (λ token. refl))
-    ∙ ap (λ r. run (body (bare r [])) (toks c.in_ok-rest.rest.now)) (sym c.new.ensures)
-    ∙ ap (λ e. run (body (bare c.new.result e)) (toks c.in_ok-rest.rest.now)) (sym c.new-2.ensures)
+    ∙ c.in_ok-rest.ensures.reads (begin draft) (part_or_end draft 0) (expects kind.LeftBrace _ _ refl (λ token. refl))
+    ∙ ap (λ r. run (part_or_end (bare r [] []) 0) (toks c.in_ok-rest.rest.now)) (sym c.new.ensures)
+    ∙ ap (λ e. run (part_or_end (bare c.new.result e []) 0) (toks c.in_ok-rest.rest.now)) (sym c.new-2.ensures)
+    ∙ ap (λ b. run (part_or_end (bare c.new.result c.new-2.result b) 0) (toks c.in_ok-rest.rest.now)) (sym c.new-3.ensures)
