@@ -1,6 +1,8 @@
 use crate::program::program;
 use lk_ast::{Answer, Item, Kind, Leg, Reason, Typed};
-use method_check::{Exec, ExecEnd, Next, Verdict, answer_leg, check_method, legs_of, method_verdict};
+use method_check::{
+    Exec, ExecEnd, Next, Verdict, answer_leg, check_method, legs_of, method_verdict,
+};
 use sqlite_items::Items;
 use std::alloc::Global;
 use std::test::Fail;
@@ -41,7 +43,10 @@ fn the_leg_of_straight_code(rt: HostRuntime) -> Result<(), Fail> {
 fn doubled(alloc: Global, count: u32) -> Result<Typed, Fail> {
     let mut text = String::from_str(alloc, "def big(p: B): Unit = {\n  val a0 = p\n")?;
     for at in 0..count {
-        let line = format!(in alloc; "  val a{next} = a{at} & a{at}\n", next = at.wrapping_add(1))?;
+        let line = format!(in alloc;
+            "  val a{next} = a{at} & a{at}\n",
+            next = at.wrapping_add(1)
+        )?;
         text.push_str(line.as_str())?;
     }
     text.push_str("}\n")?;

@@ -8,7 +8,7 @@ use std::test::Fail;
 const REFUSED: &str = "revision 1\n-:1:1 E14 form left out\n";
 
 // Texts, each with what is printed for it and its status.
-const TEXTS: [(&str, &str, u8); 14] = [
+const TEXTS: [(&str, &str, u8); 25] = [
     ("", "revision 1\nmethods 0 verified 0\n", 0),
     (
         "def keep(p: B, q: B): Unit = {\n  Contract(\n    Requires(p & q),\n    Ensures(q)\n  )\n}\n",
@@ -60,6 +60,55 @@ const TEXTS: [(&str, &str, u8); 14] = [
     ),
     ("def f(p: B): B = {\n}\n", REFUSED, 2),
     ("def f(): Unit = {\n}\ndef g(): Unit = {\n}\n", REFUSED, 2),
+    (
+        "def both(p: B, q: B): B = {\n  Contract(\n    Requires(p & q),\n    Ensures(Res | !q)\n  )\n  val r: B = p & q\n  assert(r)\n  return r\n}\n",
+        "revision 1\nboth verified\nmethods 1 verified 1\n",
+        0,
+    ),
+    (
+        "def both(p: B, q: B): B = {\n  Contract(\n    Requires(p & q),\n    Ensures(Res & !q)\n  )\n  val r: B = p & q\n  assert(r)\n  return r\n}\n",
+        "revision 1\nboth unproved -:4:13 ensures open\nmethods 1 verified 0\n",
+        1,
+    ),
+    (
+        // The result is that of the run's end, and the variables are those of their time.
+        "def f(p: B): B = {\n  Contract(Ensures(Res))\n  val q = !p\n  return p | q\n}\n",
+        "revision 1\nf verified\nmethods 1 verified 1\n",
+        0,
+    ),
+    (
+        "def f(p: B): B = {\n  Contract(Ensures(Res | (p)))\n  return !p\n}\n",
+        "revision 1\nf verified\nmethods 1 verified 1\n",
+        0,
+    ),
+    (
+        // An assertion is a fact behind it and not before it.
+        "def f(p: B): Unit = {\n  val q = p\n  assert(q | !p)\n  assert(q)\n  assert(p)\n}\n",
+        "revision 1\nf unproved -:4:10 assert open\nmethods 1 verified 0\n",
+        1,
+    ),
+    (
+        "def f(p: B, q: B): Unit = {\n  Contract(Requires(p | q, !(p & q), (p)), Ensures(!q))\n}\n",
+        "revision 1\nf verified\nmethods 1 verified 1\n",
+        0,
+    ),
+    (
+        "def f(p: B): B = {\n  return (p)\n};",
+        "revision 1\nf verified\nmethods 1 verified 1\n",
+        0,
+    ),
+    (
+        "def f(p: B): B = {\n  return p\n  return p\n}\n",
+        REFUSED,
+        2,
+    ),
+    ("def f(p: B): Unit = {\n  val q: B = r\n}\n", REFUSED, 2),
+    (
+        "def f(p: B): Unit = {\n  Contract(Ensures(Res))\n}\n",
+        REFUSED,
+        2,
+    ),
+    ("def f(p: B): Unit = {\n  val p: B = T\n}\n", REFUSED, 2),
 ];
 
 #[test]
