@@ -9,7 +9,7 @@ const KEEP: &str =
     "def keep(p: B, q: B): Unit = {\n  Contract(\n    Requires(p & q),\n    Ensures(q)\n  )\n}\n";
 
 /// Texts that are read, each with the number of its methods.
-const READ: [(&str, usize); 18] = [
+const READ: [(&str, usize); 25] = [
     ("", 0),
     ("\n\n \t\r\n", 0),
     ("// a comment\n/* and one more */\n", 0),
@@ -43,10 +43,23 @@ const READ: [(&str, usize); 18] = [
     ("def f(p: Unit): Unit = { }", 1),
     ("def f(p: B): Unit\n= { }", 1),
     ("def f(): Unit = {\n\n\nContract()\n\n}", 1),
+    ("def f(p: B): Unit = { Contract(Requires((p), p | p)) }", 1),
+    ("def f(p: B): Unit = { return p }", 1),
+    ("def f(): Unit = { ; }", 1),
+    (
+        "def f(): Unit = { val f: B = g;; }\ndef g(): B = { return Res }",
+        2,
+    ),
+    ("def f(): Unit = { val x\n: B\n= !\nT |\n (\nF\n) }", 1),
+    (
+        "def f(): Unit = {\n\n val x: Unit = F // here\n\n assert(\nx\n)\n\n}",
+        1,
+    ),
+    ("def f(): Unit = { assert((((T)))) }", 1),
 ];
 
 /// Texts of another form.
-const REFUSED: [&str; 27] = [
+const REFUSED: [&str; 24] = [
     "def",
     "def f",
     "def f(): Unit",
@@ -66,14 +79,79 @@ const REFUSED: [&str; 27] = [
     "def f(p: B): Unit = { Contract(Requires(p), Requires(p)) }",
     "def f(p: B): Unit = { Contract(Requires(p) Ensures(p)) }",
     "def f(p: B): Unit = { Contract(Requires(p &)) }",
-    "def f(p: B): Unit = { Contract(Requires((p))) }",
-    "def f(p: B): Unit = { Contract(Requires(p | p)) }",
     "def f(p: B): Unit = { Contract(Requires(p !p)) }",
     "def f(p: B): Unit = { Contract(); Contract() }",
-    "def f(p: B): Unit = { return p }",
     "def f(): Unit = { } # ",
     "def f(): Unit = { } /* ",
     "val t: B = T",
+];
+
+/// What no body holds between its braces.
+const REFUSED_BODIES: [&str; 64] = [
+    "return T; return T",
+    "return T; val x = T",
+    "return T; assert(T)",
+    "return T; Contract()",
+    "val x = T; Contract()",
+    "Contract() val x = T",
+    "val x = T val y = T",
+    "val x = T assert(x)",
+    "val _ = T",
+    "val _: B = T",
+    "val = T",
+    "val x",
+    "val x T",
+    "val x: B",
+    "val x: = T",
+    "val x: Z = T",
+    "val x: B, y = T",
+    "val x =",
+    "val x = = T",
+    "val x = _",
+    "var x = T",
+    "x = T",
+    "x",
+    "f()",
+    "T",
+    "(T)",
+    "assert",
+    "assert()",
+    "assert T",
+    "assert(T",
+    "assert T)",
+    "assert(T,)",
+    "assert(T, T)",
+    "assert(T T)",
+    "assert(T) T",
+    "return",
+    "return T T",
+    "return T\n T",
+    "return a |",
+    "return | a",
+    "return a & | b",
+    "return !| a",
+    "return a !",
+    "return a || b",
+    "return a && b",
+    "return a == b",
+    "return ()",
+    "return (a",
+    "return a)",
+    "return ((a)",
+    "return (a))",
+    "return (a,)",
+    "return (a, b)",
+    "return (a\n b)",
+    "return a (b)",
+    "return (a) b",
+    "return f(a)",
+    "return Res[B]",
+    "return Res Res",
+    "return [a]",
+    "return {a}",
+    "return (return a)",
+    "import a",
+    "def g(): Unit = { }",
 ];
 
 fn line(line: u32, col: u32) -> Place {
@@ -138,6 +216,10 @@ fn texts_are_read_or_refused(rt: HostRuntime) -> Result<(), Fail> {
         assert!(rt; is_refused(rt.alloc(), text.as_bytes()), "{text}");
     }
     assert!(rt; is_refused(rt.alloc(), b"def f(): Unit = { }\xff"));
+    for body in REFUSED_BODIES {
+        let text = format!(in rt.alloc(); "def f(): B = {{ {body} }}")?;
+        assert!(rt; is_refused(rt.alloc(), text.as_bytes()), "{body}");
+    }
     Ok(())
 }
 
