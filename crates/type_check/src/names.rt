@@ -25,9 +25,8 @@ impl NameTable {
     pub fn new(alloc: Global) -> NameTable
         ensures { result ≡ [] }
     {
-        NameTable {
-            names: IndexSet::new(alloc),
-        }
+        let names = IndexSet::new(alloc);
+        NameTable { names }
     }
 
     /// Adds a name at the end, or answers `false` where it is there.

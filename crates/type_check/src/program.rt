@@ -4,9 +4,9 @@ ghost use Rattle.std.specs.Str.{bytes_eq};
 ghost use Rattle.lk_ast.specs.declared.tree.Fault.{Fault};
 ghost use Rattle.lk_ast.specs.ExprTree.{expr_tree};
 ghost use Rattle.lk_ast.specs.ProgramTree.{code_tree, noted_tree, program_tree};
-ghost use Rattle.type_check.specs.Typing.{AreStatementsOver, AreWellTyped, IsClaimOver, IsReturnOver, IsTyped, IsWellTyped, IsWellTypedMethod};
-ghost use Rattle.type_check.specs.Typing.{body_places, code_from, method_nodes, noted_from, number_of_result, over, places_of, program_of};
-ghost use Rattle.type_check.specs.Typing.{returned_code, returned_places, scope_of, type_of, typed_method, val_names};
+ghost use Rattle.type_check.specs.Typing.{AreStatementsOver, AreWellTyped, IsClaimOver, IsReturnOver, IsTruthType, IsTyped, IsWellTyped, IsWellTypedMethod};
+ghost use Rattle.type_check.specs.Typing.{body_places, code_from, method_nodes, noted_from, number_of_result, over, param_names, places_of, program_of};
+ghost use Rattle.type_check.specs.Typing.{result_number, returned_code, returned_places, scope_of, type_of, typed_method, val_names};
 ghost use Rattle.type_check.specs.Refusal.{Refuses};
 ghost use Rattle.type_check.specs.Fault.{form_left_out};
 
@@ -124,15 +124,32 @@ fn body_of(
     Ok(code)
 }
 
-/// The program of one method.
-fn program_of_method(alloc: Global, method: &MethodDecl) -> Result<Typed, Refusal>
-    ensures rules { OnOk result (IsWellTypedMethod method.now) }
-    ensures program { IfOk result (λ typed. program_tree typed ≡ record { methods = typed_method method.now ∷ []; nodes = method_nodes method.now }) }
+/// What the contract and the body of a method give, and the method's nodes.
+#[derive(Drop)]
+struct Parts {
+    requires_: Items<Noted>,
+    ensures_: Items<Noted>,
+    body: Items<Code>,
+    nodes: Items<NodePlace>,
+}
+
+/// The parts of a method, whose parameters have these names and which has so many variables beside its result.
+fn parts_of(
+    alloc: Global,
+    mut names: NameTable,
+    method: &MethodDecl,
+    count: usize,
+) -> Result<Parts, Refusal>
+    requires names { names ≡ param_names method.now }
+    requires count { count ≡ result_number method.now }
+    ensures rules { OnOk result (All (λ param. IsTruthType param.ty) method.now.params → IsDistinct bytes_eq (param_names method.now) → IsWellTypedMethod method.now) }
+    ensures requires_ { IfOk result (λ parts. map noted_tree parts.requires_ ≡ (typed_method method.now).requires_) }
+    ensures ensures_ { IfOk result (λ parts. map noted_tree parts.ensures_ ≡ (typed_method method.now).ensures_) }
+    ensures body { IfOk result (λ parts. map code_tree parts.body ≡ (typed_method method.now).body) }
+    ensures nodes { IfOk result (λ parts. parts.nodes ≡ method_nodes method.now) }
     ensures err { IfErr result (λ end. Refuses end (IsWellTypedMethod method.now)) }
 {
-    let (mut names, params) = params_of(alloc, method.params.as_slice())?;
-    let locals = locals_of(alloc, method.params.as_slice(), method.body.as_slice())?;
-    let last = number(locals.len())?;
+    let last = number(count)?;
     let own = number_of_result(method.result, last);
     let mut nodes = Items::new(alloc);
     nodes.push(NodePlace {
@@ -141,18 +158,38 @@ fn program_of_method(alloc: Global, method: &MethodDecl) -> Result<Typed, Refusa
     let (requires_, ensures_) = contract_of(alloc, &names, method, own, &mut nodes)?;
     let body = body_of(alloc, &mut names, method, last, &mut nodes)?;
     test_name(&names, &method.name)?;
+    Ok(Parts {
+        requires_,
+        ensures_,
+        body,
+        nodes,
+    })
+}
+
+/// The program of one method.
+fn program_of_method(alloc: Global, method: &MethodDecl) -> Result<Typed, Refusal>
+    ensures rules { OnOk result (IsWellTypedMethod method.now) }
+    ensures program { IfOk result (λ typed. program_tree typed ≡ record { methods = typed_method method.now ∷ []; nodes = method_nodes method.now }) }
+    ensures err { IfErr result (λ end. Refuses end (IsWellTypedMethod method.now)) }
+{
+    let (names, params) = params_of(alloc, method.params.as_slice())?;
+    let locals = locals_of(alloc, method.params.as_slice(), method.body.as_slice())?;
+    let parts = parts_of(alloc, names, method, locals.len())?;
     let mut methods = Items::new(alloc);
     methods.push(Method {
         name: method.name.text.copy(alloc)?,
         node: NodeNo(0),
         params,
         result: type_of(method.result),
-        requires_,
-        ensures_,
+        requires_: parts.requires_,
+        ensures_: parts.ensures_,
         locals,
-        body,
+        body: parts.body,
     })?;
-    Ok(Typed { methods, nodes })
+    Ok(Typed {
+        methods,
+        nodes: parts.nodes,
+    })
 }
 
 /// The program of a list of declarations.
