@@ -9,7 +9,7 @@ ghost use Rattle.term_forms.specs.Form.{form_of, IsFormOf, IsTermOf, AreTermsOf,
 use crate::form::{Form, FormEnd};
 use crate::operators::{binary_form, unary_form};
 use slang_values::{Binary, Quantifier, Unary};
-use sqlite_items::Items;
+use sqlite_items::{Boxed, Items};
 use std::alloc::Global;
 use term_trees::{Shape, Term};
 
@@ -82,8 +82,7 @@ fn form_of_update(alloc: Global, a: &Term, i: &Term, x: &Term) -> Result<Form, F
     let a = canonical_term(alloc, a)?;
     let i = canonical_term(alloc, i)?;
     let x = canonical_term(alloc, x)?;
-    let atom = Term::update(alloc, a, i, x)?;
-    Ok(Form::of_atom(alloc, atom)?)
+    Ok(Form::of_atom(alloc, Term::Update(a, i, x))?)
 }
 
 #[cycle(form)]
@@ -102,19 +101,33 @@ fn form_of_quantified(
     let low = canonical_term(alloc, low)?;
     let high = canonical_term(alloc, high)?;
     let body = canonical_term(alloc, body)?;
-    let atom = Term::quantified(alloc, quantifier, low, high, body)?;
-    Ok(Form::of_atom(alloc, atom)?)
+    Ok(Form::of_atom(alloc, quantified_term(quantifier, low, high, body))?)
+}
+
+#[tactic(auto, using(term_trees::proofs::Trees::tree_lines))]
+fn quantified_term(
+    quantifier: Quantifier,
+    low: Boxed<Term>,
+    high: Boxed<Term>,
+    body: Boxed<Term>,
+) -> Term
+    ensures { tree result ≡ quantified quantifier (tree low) (tree high) (tree body) }
+{
+    match quantifier {
+        Quantifier::All => Term::All(low, high, body),
+        Quantifier::Exists => Term::Exists(low, high, body),
+    }
 }
 
 /// The term of the term's form.
 #[cycle(form)]
 #[tactic(auto, using(crate::proofs::Forms::form_lines))]
-fn canonical_term(alloc: Global, term: &Term) -> Result<Term, FormEnd>
+fn canonical_term(alloc: Global, term: &Term) -> Result<Boxed<Term>, FormEnd>
     ensures term { IfOk result (λ t. IsTermOf (tree term.now) (tree t)) }
     ensures end { IfErr result (λ e. IsEndOf (tree term.now) e) }
 {
     let form = form_of_term(alloc, term)?;
-    Ok(form.into_term(alloc)?)
+    Ok(form.into_boxed_term(alloc)?)
 }
 
 #[cycle(form)]
@@ -125,7 +138,8 @@ fn canonical_terms(alloc: Global, terms: &[Term]) -> Result<Items<Term>, FormEnd
 {
     let mut parts = Items::new(alloc);
     for term in terms {
-        parts.push(canonical_term(alloc, term)?)?;
+        let form = form_of_term(alloc, term)?;
+        parts.push(form.into_term(alloc)?)?;
     }
     Ok(parts)
 }

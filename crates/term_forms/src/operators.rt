@@ -61,10 +61,18 @@ fn binary_atom(alloc: Global, left: Form, right: Form, op: Binary) -> Result<For
     ensures { IfOk result
         (λ f. form_of f ≡ forms.atom_form (binary op (forms.form_term (form_of left)) (forms.form_term (form_of right)))) }
 {
-    let a = left.into_term(alloc)?;
-    let b = right.into_term(alloc)?;
+    let (a, b) = two_terms(alloc, left, right)?;
     let atom = Term::binary(alloc, op, a, b)?;
     Form::of_atom(alloc, atom)
+}
+
+fn two_terms(alloc: Global, left: Form, right: Form) -> Result<(Term, Term), AllocError>
+    ensures first { IfOk result (λ p. tree p.0 ≡ forms.form_term (form_of left)) }
+    ensures second { IfOk result (λ p. tree p.1 ≡ forms.form_term (form_of right)) }
+{
+    let a = left.into_term(alloc)?;
+    let b = right.into_term(alloc)?;
+    Ok((a, b))
 }
 
 fn difference(left: Form, right: Form) -> Result<Form, AllocError>
@@ -89,8 +97,7 @@ fn product(alloc: Global, left: Form, right: Form) -> Result<Form, AllocError>
         let by = right.constant;
         return Ok(left.times(by));
     }
-    let a = left.into_term(alloc)?;
-    let b = right.into_term(alloc)?;
+    let (a, b) = two_terms(alloc, left, right)?;
     let atom = product_atom(alloc, a, b)?;
     Form::of_atom(alloc, atom)
 }

@@ -7,6 +7,7 @@ ghost use Rattle.term_forms.specs.Form.{part_of, form_of};
 use crate::NoMemory;
 use crate::form::{Form, Part};
 use slang_values::Binary;
+use sqlite_items::Boxed;
 use std::alloc::{AllocError, Global};
 use term_trees::Term;
 use term_walks::copy;
@@ -31,6 +32,13 @@ impl Form {
         let constant = self.constant;
         let sum = sum_of_parts(alloc, self.parts)?;
         with_constant(alloc, sum, constant)
+    }
+
+    pub(crate) fn into_boxed_term(self, alloc: Global) -> Result<Boxed<Term>, AllocError>
+        ensures { IfOk result (λ t. tree t ≡ forms.form_term (form_of self)) }
+    {
+        let term = self.into_term(alloc)?;
+        Boxed::new(alloc, term)
     }
 }
 
