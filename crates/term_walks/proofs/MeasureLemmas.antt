@@ -16,7 +16,7 @@ greatest_height-push : (ts : List (Tree ℕ)) (t : Tree ℕ) → greatest_height
 greatest_height-push [] t = omega arith
 greatest_height-push (x ∷ ts) t = omega (arith, greatest_height-push ts t)
 
-more_trees : (terms : List Term) (i : ℕ) (t : Term) → i < length terms → t ≡ get_or terms i t → trees (take (i + 1) terms) ≡ trees_of (map tree (take i terms) ++ tree t ∷ [])
+pub more_trees : (terms : List Term) (i : ℕ) (t : Term) → i < length terms → t ≡ get_or terms i t → trees (take (i + 1) terms) ≡ trees_of (map tree (take i terms) ++ tree t ∷ [])
 more_trees terms i t l is =
     let at_i : take (i + 1) terms ≡ take i terms ++ t ∷ [] = take_more terms i t l ∙ ap (λ x. take i terms ++ x ∷ []) (sym is) in
     rw (at_i, map-append) refl

@@ -59,7 +59,7 @@ ascend_inserted q (p ∷ ps) h =
 
 ascend_all : (qs ps : List FormPart) → Ascend ps → Ascend (all_inserted qs ps)
 ascend_all [] ps h = h
-ascend_all (q ∷ qs) ps h = ascend_all qs (inserted q ps) (ascend_inserted q ps h)
+ascend_all (q ∷ qs) ps h = ascend_inserted q (all_inserted qs ps) (ascend_all qs ps h)
 
 above_multiplied : (t : Tree ℕ) (k : ℤ) (ps : List FormPart) → AllAbove t ps → AllAbove t (map (multiplied k) ps)
 above_multiplied t k [] h = tt
@@ -86,7 +86,7 @@ zero_inserted q (p ∷ ps) n h = zero_placed (tree_cmp p.atom q.atom) p q ps (in
 
 zero_all : (qs ps : List FormPart) → AreNotZero qs → AreNotZero ps → AreNotZero (all_inserted qs ps)
 zero_all [] ps h k = k
-zero_all (q ∷ qs) ps h k = zero_all qs (inserted q ps) h.1 (zero_inserted q ps h.0 k)
+zero_all (q ∷ qs) ps h k = zero_inserted q (all_inserted qs ps) h.0 (zero_all qs ps h.1 k)
 
 zero_multiplied : (k : ℤ) (ps : List FormPart) → k ≢ pos 0 → AreNotZero ps → AreNotZero (map (multiplied k) ps)
 zero_multiplied k [] n h = tt

@@ -69,7 +69,7 @@ module _ (records : Records) (names : ℕ → Value) (e : Bounds) where
   parts_value-all_inserted : (qs ps : List FormPart) → parts_value (all_inserted qs ps) ≡ parts_value ps +ℤ parts_value qs
   parts_value-all_inserted [] ps = omega (arith, ints)
   parts_value-all_inserted (q ∷ qs) ps =
-      omega (arith, ints, parts_value-all_inserted qs (inserted q ps), parts_value-inserted q ps)
+      omega (arith, ints, parts_value-inserted q (all_inserted qs ps), parts_value-all_inserted qs ps)
 
   pub form_value-plus : (f g : LinearForm) → form_value records names e (plus f g) ≡ form_value records names e f +ℤ form_value records names e g
   form_value-plus f g = omega (arith, ints, parts_value-all_inserted g.parts f.parts)
@@ -112,7 +112,7 @@ module _ (records : Records) (names : ℕ → Value) (e : Bounds) where
 
   numbers_all_inserted : (qs ps : List FormPart) → AtomsAreNumbers qs → AtomsAreNumbers ps → AtomsAreNumbers (all_inserted qs ps)
   numbers_all_inserted [] ps h k = k
-  numbers_all_inserted (q ∷ qs) ps h k = numbers_all_inserted qs (inserted q ps) h.1 (numbers_inserted q ps h.0 k)
+  numbers_all_inserted (q ∷ qs) ps h k = numbers_inserted q (all_inserted qs ps) h.0 (numbers_all_inserted qs ps h.1 k)
 
   numbers_multiplied : (k : ℤ) (ps : List FormPart) → AtomsAreNumbers ps → AtomsAreNumbers (map (multiplied k) ps)
   numbers_multiplied k [] h = tt

@@ -1,5 +1,6 @@
 pub mod CanonicalValues
 pub mod FormOrder
 pub mod FormValues
+pub mod Narrow
 pub mod Ordered
 pub mod TreesApart

@@ -1,5 +1,5 @@
 -- The linear form of a tree: a sum of atoms, each a number of times, and a constant.
-use Rattle.std.specs.Prelude.{ℕ, ◌^◌, ℤ, pos, negsuc, ◌+ℤ◌, ◌*ℤ◌, neg_ℤ, int_le, unsigned_abs, nat_le, List, [], ◌∷◌, map, Bool, true, false, ◌&&◌, if◌then◌else◌, Option, Some, None}
+use Rattle.std.specs.Prelude.{ℕ, ◌^◌, ℤ, pos, negsuc, ◌+ℤ◌, ◌*ℤ◌, neg_ℤ, int_le, unsigned_abs, nat_le, List, [], ◌∷◌, ◌++◌, map, Bool, true, false, ◌&&◌, if◌then◌else◌, Option, Some, None}
 use Rattle.std.specs.declared.cmp.Ordering.{Ordering}
 use Rattle.std.specs.declared.cmp.Ordering.TheVariants.{Less, Equal, Greater}
 use Rattle.std.specs.Ordering.{int_eq, is_lt}
@@ -45,9 +45,10 @@ abbrev pub inserted : FormPart → List FormPart → List FormPart
 inserted q [] = q ∷ []
 inserted q (p ∷ ps) = placed (tree_cmp p.atom q.atom) p q ps (inserted q ps)
 
+-- the parts ps with all those of the other list
 abbrev pub all_inserted : List FormPart → List FormPart → List FormPart
 all_inserted [] ps = ps
-all_inserted (q ∷ qs) ps = all_inserted qs (inserted q ps)
+all_inserted (q ∷ qs) ps = inserted q (all_inserted qs ps)
 
 abbrev pub plus : LinearForm → LinearForm → LinearForm
 plus f g = record { parts = all_inserted g.parts f.parts; constant = f.constant +ℤ g.constant }
@@ -110,31 +111,29 @@ remainder_form f g =
 
 -- ---- the form of a tree
 
+-- of an operator over a part with the form f
+abbrev pub unary_form : Unary → LinearForm → LinearForm
+unary_form Unary.Neg f = scaled (negsuc 0) f
+unary_form op f = atom_form (unary op (form_term f))
+
+-- of an operator over parts with the forms f and g
+abbrev pub binary_form : Binary → LinearForm → LinearForm → LinearForm
+binary_form Binary.Add f g = plus f g
+binary_form Binary.Sub f g = plus f (scaled (negsuc 0) g)
+binary_form Binary.Mul f g = product f g
+binary_form Binary.Rem f g = remainder_form f g
+binary_form op f g = atom_form (binary op (form_term f) (form_term g))
+
 abbrev mutual
-  -- Sums, differences, multiples and literals are taken apart. Each other node is an atom, in which each part is the term of its
-  -- own form, at every depth.
+  -- Literals, sums, differences, multiples and remainders by a literal are taken apart. Each other node is an atom, in which
+  -- each part is the term of its own form, and so at every depth.
   pub form : Tree ℕ → LinearForm
   form (literal z) = constant_form z
   form (truth_literal b) = atom_form (truth_literal b)
   form (name n) = atom_form (name n)
   form (bound n) = atom_form (bound n)
-  form (unary Unary.Neg a) = scaled (negsuc 0) (form a)
-  form (unary Unary.Not a) = atom_form (unary Unary.Not (form_term (form a)))
-  form (unary Unary.Size a) = atom_form (unary Unary.Size (form_term (form a)))
-  form (unary (Unary.Field k) a) = atom_form (unary (Unary.Field k) (form_term (form a)))
-  form (binary Binary.Add a b) = plus (form a) (form b)
-  form (binary Binary.Sub a b) = plus (form a) (scaled (negsuc 0) (form b))
-  form (binary Binary.Mul a b) = product (form a) (form b)
-  form (binary Binary.Div a b) = atom_form (binary Binary.Div (form_term (form a)) (form_term (form b)))
-  form (binary Binary.Rem a b) = remainder_form (form a) (form b)
-  form (binary Binary.And a b) = atom_form (binary Binary.And (form_term (form a)) (form_term (form b)))
-  form (binary Binary.Or a b) = atom_form (binary Binary.Or (form_term (form a)) (form_term (form b)))
-  form (binary Binary.Imply a b) = atom_form (binary Binary.Imply (form_term (form a)) (form_term (form b)))
-  form (binary Binary.Eq a b) = atom_form (binary Binary.Eq (form_term (form a)) (form_term (form b)))
-  form (binary Binary.Lt a b) = atom_form (binary Binary.Lt (form_term (form a)) (form_term (form b)))
-  form (binary Binary.Le a b) = atom_form (binary Binary.Le (form_term (form a)) (form_term (form b)))
-  form (binary Binary.Read a b) = atom_form (binary Binary.Read (form_term (form a)) (form_term (form b)))
-  form (binary Binary.Append a b) = atom_form (binary Binary.Append (form_term (form a)) (form_term (form b)))
+  form (unary op a) = unary_form op (form a)
+  form (binary op a b) = binary_form op (form a) (form b)
   form (update a i x) = atom_form (update (form_term (form a)) (form_term (form i)) (form_term (form x)))
   form (quantified q low high body) =
       atom_form (quantified q (form_term (form low)) (form_term (form high)) (form_term (form body)))
@@ -153,21 +152,28 @@ abbrev pub has_small_numbers : LinearForm → Bool
 has_small_numbers f = list_all (λ p. is_within p.times) f.parts && is_within f.constant
 
 abbrev mutual
-  -- no form of a subterm has a number beyond 2^60; a tree with one is Wide
-  pub is_narrow : Tree ℕ → Bool
-  is_narrow (literal z) = is_within z
-  is_narrow (truth_literal b) = true
-  is_narrow (name n) = true
-  is_narrow (bound n) = true
-  is_narrow (unary op a) = is_narrow a && has_small_numbers (form (unary op a))
-  is_narrow (binary op a b) = is_narrow a && is_narrow b && has_small_numbers (form (binary op a b))
-  is_narrow (update a i x) = is_narrow a && is_narrow i && is_narrow x
-  is_narrow (quantified q low high body) = is_narrow low && is_narrow high && is_narrow body
-  is_narrow (listed l ts) = are_narrow ts
+  -- the tree, and each part of it, at every depth
+  pub subtrees : Tree ℕ → List (Tree ℕ)
+  subtrees (literal z) = literal z ∷ []
+  subtrees (truth_literal b) = truth_literal b ∷ []
+  subtrees (name n) = name n ∷ []
+  subtrees (bound n) = bound n ∷ []
+  subtrees (unary op a) = unary op a ∷ subtrees a
+  subtrees (binary op a b) = binary op a b ∷ (subtrees a ++ subtrees b)
+  subtrees (update a i x) = update a i x ∷ (subtrees a ++ subtrees i ++ subtrees x)
+  subtrees (quantified q low high body) = quantified q low high body ∷ (subtrees low ++ subtrees high ++ subtrees body)
+  subtrees (listed l ts) = listed l ts ∷ all_subtrees ts
 
-  pub are_narrow : Trees ℕ → Bool
-  are_narrow no_trees = true
-  are_narrow (tree_then t ts) = is_narrow t && are_narrow ts
+  pub all_subtrees : Trees ℕ → List (Tree ℕ)
+  all_subtrees no_trees = []
+  all_subtrees (tree_then t ts) = subtrees t ++ all_subtrees ts
+
+-- The form of the tree, and that of each part at every depth, has no number beyond 2^60. A tree that is not narrow is Wide.
+unfoldable pub is_narrow : Tree ℕ → Bool
+is_narrow t = list_all (λ s. has_small_numbers (form s)) (subtrees t)
+
+unfoldable pub are_narrow : Trees ℕ → Bool
+are_narrow ts = list_all (λ s. has_small_numbers (form s)) (all_subtrees ts)
 
 -- ---- the value of a form
 

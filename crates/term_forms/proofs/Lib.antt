@@ -1,0 +1,4 @@
+pub mod Forms
+pub mod Joining
+pub mod Places
+pub mod SumLemmas
