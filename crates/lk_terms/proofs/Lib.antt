@@ -1,0 +1,4 @@
+pub mod Substituting
+pub mod SubstitutionKeepsValues
+pub mod Substitutions
+pub mod Validity
