@@ -7,7 +7,8 @@ use Rattle.slang_values.specs.declared.operators.Binary.{Binary}
 use Rattle.slang_values.specs.declared.operators.Quantifier.{Quantifier}
 use Rattle.term_trees.specs.declared.term.Term.{Term}
 use Rattle.term_trees.specs.Term.{tree, trees, trees_of}
-use Rattle.lk_terms.specs.Substitution.{substituted, all_substituted, IsPlace, Substitutes, AllSubstitute, IsNextPlace}
+use Rattle.lk_terms.specs.Place.{IsPlace, IsNextPlace}
+use Rattle.lk_terms.specs.Substitution.{substituted, all_substituted, Substitutes, AllSubstitute}
 
 module _ (place : Option ℕ) (u : Tree ℕ) where
   pub Substitutes-literal : (t r : Tree ℕ) (z : _) → t ≡ literal z → r ≡ literal z → Substitutes place u t r

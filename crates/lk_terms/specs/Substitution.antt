@@ -1,6 +1,7 @@
 -- A term in place of a bound variable.
-use Rattle.std.specs.Prelude.{◌≡◌, ℕ, suc, ℤ, ◌≤◌, ◌^◌, Option, Some, None, if◌then◌else◌, ◌==◌}
+use Rattle.std.specs.Prelude.{◌≡◌, ℕ, suc, ℤ, Option, if◌then◌else◌, ◌==◌}
 use Rattle.slang_values.specs.Value.{Records, Value, number}
+use Rattle.lk_terms.specs.Place.{IsPlace}
 use Rattle.slang_values.specs.Tree.{Tree, literal, truth_literal, name, bound, unary, binary, update, quantified, listed, Trees, no_trees, tree_then, Bounds, value}
 
 abbrev mutual
@@ -32,18 +33,9 @@ KeepsValues {A} n u t r =
     (records : Records) (names : A → Value) (e : Bounds) (k : ℤ) → value records names e u ≡ number k →
     value records names e r ≡ value records names (assigned n k e) t
 
--- n is that number; with none, it is beyond the numbers of 32 bits
-abbrev pub IsPlace : Option ℕ → ℕ → Type 0
-IsPlace None n = 2 ^ 32 ≤ n
-IsPlace (Some m) n = n ≡ m
-
 -- r is t with u in place of the variable at the place
 pub record Substitutes (place : Option ℕ) (u t r : Tree ℕ) : Type 0 where
   pub at : (n : ℕ) → IsPlace place n → r ≡ substituted n u t
 
 pub record AllSubstitute (place : Option ℕ) (u : Tree ℕ) (ts rs : Trees ℕ) : Type 0 where
   pub at : (n : ℕ) → IsPlace place n → rs ≡ all_substituted n u ts
-
--- a variable at the place stands, inside one more quantifier, at the next
-pub record IsNextPlace (place next : Option ℕ) : Type 0 where
-  pub at : (n : ℕ) → IsPlace place n → IsPlace next (suc n)

@@ -1,11 +1,14 @@
 //! Terms over numbered symbols, sequents of terms, and substitution.
 #![tactic(auto)]
 
+mod closed;
 pub mod laws;
+mod place;
 mod sequent;
 mod step;
 mod substitution;
 
+pub use closed::is_closed;
 pub use sequent::Sequent;
 pub use step::StepTerm;
 pub use substitution::substitute;

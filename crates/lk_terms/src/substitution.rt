@@ -2,9 +2,10 @@ ghost use Rattle.std.specs.Prelude.{◌≡◌, IfOk};
 ghost use Rattle.slang_values.specs.Tree.{bound as bound_variable, binary, update, quantified};
 ghost use Rattle.slang_values.specs.Typing.{IsClosed};
 ghost use Rattle.term_trees.specs.Term.{tree, trees};
-ghost use Rattle.lk_terms.specs.Substitution.{substituted, KeepsValues, Substitutes, AllSubstitute, IsNextPlace};
+ghost use Rattle.lk_terms.specs.Substitution.{substituted, KeepsValues, Substitutes, AllSubstitute};
 
 use crate::NoMemory;
+use crate::place::next_place;
 use slang_values::{Binary, Quantifier};
 use sqlite_items::Items;
 use std::alloc::Global;
@@ -19,16 +20,6 @@ pub fn substitute(alloc: Global, term: &Term, bound: u32, by: &Term) -> Result<T
     ensures keeps_values { IfOk result (λ t. KeepsValues bound (tree by.now) (tree term.now) (tree t)) }
 {
     substitute_at(alloc, term, Some(bound), by)
-}
-
-/// The number of the variable inside one more quantifier, where it is one of 32 bits.
-fn next_place(place: Option<u32>) -> Option<u32>
-    ensures { IsNextPlace place result }
-{
-    match place {
-        Some(n) => n.checked_add(1),
-        None => None,
-    }
 }
 
 #[cycle(substitute)]
