@@ -1,4 +1,5 @@
 pub mod PartLists
+pub mod Shapes
 pub mod Sizes
 pub mod Sorts
 pub mod Trees

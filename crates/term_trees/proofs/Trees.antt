@@ -118,3 +118,7 @@ unfolding tree
 tree-Exists low high body = ap tree (sym (rolls-Exists low high body)) ∙ fold-roll-Term (Tree ℕ) term_level (Term-F.Exists low high body)
 
 pub ruleset tree_lines = (tree-Lit, tree-True, tree-False, tree-Symbol, tree-Bound, tree-Neg, tree-Not, tree-Add, tree-Sub, tree-Mul, tree-Div, tree-Rem, tree-And, tree-Or, tree-Imply, tree-Eq, tree-Lt, tree-Le, tree-Size, tree-Read, tree-Update, tree-Append, tree-SeqLit, tree-Rec, tree-Field, tree-All, tree-Exists)
+
+pub ruleset leaf_lines = (tree-Lit, tree-True, tree-False, tree-Symbol, tree-Bound)
+
+pub ruleset update_lines = (tree-Update)

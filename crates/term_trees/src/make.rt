@@ -8,8 +8,8 @@ use slang_values::{Binary, Quantifier, Unary};
 use sqlite_items::Boxed;
 use std::alloc::Global;
 
-#[tactic(auto, using(crate::proofs::Trees::tree_lines))]
 impl Term {
+    #[tactic(auto, using(crate::proofs::Trees::leaf_lines))]
     pub fn truth(value: bool) -> Term
         ensures { tree result ≡ truth_literal value }
     {
@@ -31,8 +31,7 @@ impl Term {
     pub fn binary(alloc: Global, op: Binary, a: Term, b: Term) -> Result<Term, NoMemory>
         ensures { IfOk result (λ t. tree t ≡ binary op (tree a) (tree b)) }
     {
-        let a = Boxed::new(alloc, a)?;
-        let b = Boxed::new(alloc, b)?;
+        let (a, b) = boxed_two(alloc, a, b)?;
         match op {
             Binary::Add => Ok(Term::Add(a, b)),
             Binary::Sub => Ok(Term::Sub(a, b)),
@@ -51,12 +50,11 @@ impl Term {
     }
 
     /// The sequence with another element at a place.
+    #[tactic(auto, using(crate::proofs::Trees::update_lines))]
     pub fn update(alloc: Global, a: Term, i: Term, x: Term) -> Result<Term, NoMemory>
         ensures { IfOk result (λ t. tree t ≡ update (tree a) (tree i) (tree x)) }
     {
-        let a = Boxed::new(alloc, a)?;
-        let i = Boxed::new(alloc, i)?;
-        let x = Boxed::new(alloc, x)?;
+        let (a, i, x) = boxed_three(alloc, a, i, x)?;
         Ok(Term::Update(a, i, x))
     }
 
@@ -69,12 +67,31 @@ impl Term {
     ) -> Result<Term, NoMemory>
         ensures { IfOk result (λ t. tree t ≡ quantified quantifier (tree low) (tree high) (tree body)) }
     {
-        let low = Boxed::new(alloc, low)?;
-        let high = Boxed::new(alloc, high)?;
-        let body = Boxed::new(alloc, body)?;
+        let (low, high, body) = boxed_three(alloc, low, high, body)?;
         match quantifier {
             Quantifier::All => Ok(Term::All(low, high, body)),
             Quantifier::Exists => Ok(Term::Exists(low, high, body)),
         }
     }
+}
+
+fn boxed_two(alloc: Global, a: Term, b: Term) -> Result<(Boxed<Term>, Boxed<Term>), NoMemory>
+    ensures { IfOk result (λ p. (p.0 ≡ a) × (p.1 ≡ b)) }
+{
+    let a = Boxed::new(alloc, a)?;
+    let b = Boxed::new(alloc, b)?;
+    Ok((a, b))
+}
+
+fn boxed_three(
+    alloc: Global,
+    a: Term,
+    b: Term,
+    c: Term,
+) -> Result<(Boxed<Term>, Boxed<Term>, Boxed<Term>), NoMemory>
+    ensures { IfOk result (λ p. (p.0 ≡ a) × (p.1 ≡ b) × (p.2 ≡ c)) }
+{
+    let (a, b) = boxed_two(alloc, a, b)?;
+    let c = Boxed::new(alloc, c)?;
+    Ok((a, b, c))
 }

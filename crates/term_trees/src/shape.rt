@@ -4,6 +4,7 @@ use crate::term::{Sort, Term};
 use slang_values::{Binary, Quantifier, Unary};
 
 /// A term by its operator and its parts.
+#[derive(Clone, Copy)]
 pub enum Shape<'a> {
     Literal(i128),
     Truth(bool),
@@ -20,7 +21,7 @@ pub enum Shape<'a> {
 }
 
 impl Term {
-    #[tactic(auto, using(crate::proofs::Trees::tree_lines, crate::proofs::Sizes::smaller_lines))]
+    #[tactic(auto, using(crate::proofs::Trees::leaf_lines))]
     pub fn shape(&self) -> Shape<'_>
         ensures { IsShapeOf self.now result }
     {

@@ -1,0 +1,5 @@
+pub mod Substituting
+pub mod SubstitutionKeepsValues
+pub mod Substitutions
+pub mod Validity
+pub mod TellingClosed
