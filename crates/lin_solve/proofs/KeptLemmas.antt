@@ -1,6 +1,5 @@
 -- Rows that stand: whether one equals a row, and what stays when lines are added.
-use Rattle.std.proofs.Common.{◌≡◌, ℕ, zero, suc, ◌<◌, ◌≤◌, Bool, true, false, ◌||◌, List, [], ◌∷◌, ◌++◌, length, get_or, Result, Ok, Err, ⊎_elim, ap, sym, refl, ◌∙◌, arith, lt-ltb, le-ltb}
-use Rattle.std.specs.Result.{OnOk}
+use Rattle.std.proofs.Common.{◌≡◌, ℕ, zero, suc, ◌<◌, ◌≤◌, Bool, true, false, ◌||◌, List, [], ◌∷◌, ◌++◌, length, get_or, ⊎_elim, ap, sym, refl, ◌∙◌, arith, lt-ltb, le-ltb}
 use Rattle.std.specs.List.{list_any, AllByRecursion}
 use Rattle.std.proofs.lemmas.Bool.{cases_Bool, false≢true}
 use Rattle.lin_rows.specs.Inequality.{Inequality}
@@ -54,8 +53,3 @@ all_at P (x ∷ xs) (suc i) d a h = all_at P xs i d a.1 (omega arith)
 
 pub line_here : (lines : List CertLine) (ks : List ℕ) (i d : ℕ) → AreLines lines ks → i < length ks → get_or ks i d < length lines
 line_here lines ks i d a h = all_at (λ k. k < length lines) ks i d a h
-
--- ---- what three clauses say after Ok
-pub on_ok_three : {T E A B C D : Type 0} (r : Result T E) → OnOk r A → OnOk r B → OnOk r C → (A → B → C → D) → OnOk r D
-on_ok_three (Ok x) a b c f = f a b c
-on_ok_three (Err e) a b c f = tt

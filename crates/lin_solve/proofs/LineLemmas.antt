@@ -1,9 +1,9 @@
 -- What stays when lines are added.
-use Rattle.std.proofs.Common.{◌≡◌, ℕ, ◌<◌, ◌≤◌, Bool, true, List, [], ◌∷◌, ◌++◌, length, get_or, is_some, nat_eq, Some, pos, ℤ, ap, ap₂, sym, refl, ◌∙◌, subst, arith, FitsSigned, to_z, of_z, append_assoc, append-nil, length-append}
+use Rattle.std.proofs.Common.{◌+◌, cond, eqb, false, take, ◌≡◌, ℕ, ◌<◌, ◌≤◌, Bool, true, List, [], ◌∷◌, ◌++◌, length, get_or, is_some, nat_eq, Option, Some, pos, ℤ, ap, ap₂, sym, refl, ◌∙◌, subst, arith, FitsSigned, to_z, of_z, append_assoc, append-nil, length-append}
 use Rattle.std.specs.Option.{option_map}
 use Rattle.std.specs.HashMap.{get}
 use Rattle.std.specs.List.{AllByRecursion}
-use Rattle.std.proofs.lemmas.List.{get_or_append_left, get_or_push, get_or_default, map-append}
+use Rattle.std.proofs.lemmas.List.{take_more, get_or_append_left, get_or_push, get_or_default, map-append}
 use Rattle.std.proofs.lemmas.Option.{slice_get-get_or}
 use Rattle.std.specs.Int.{w128}
 use Rattle.std.proofs.lemmas.Int.{ints, to_z-of_z}
@@ -23,8 +23,9 @@ use Rattle.elimination.proofs.NextRows.{All-push}
 use Rattle.lin_solve.specs.declared.keeping.Kept.{Kept}
 use Rattle.lin_solve.specs.declared.keeping.Tightened.{Tightened}
 use Rattle.lin_solve.specs.declared.keeping.Tightened.TheVariants.{Same, By}
-use Rattle.lin_solve.specs.Lines.{IsTightened, row_of, rows_of, AreLines, Extends, Stands, HasLine, HasKept}
+use Rattle.lin_solve.specs.Lines.{IsTightened, row_of, rows_of, AreLines, Extends, Stands, HasTable, HasLine, HasKept}
 use Rattle.lin_solve.specs.Print.{print_of}
+use Rattle.lin_solve.proofs.KeptLemmas.{line_here}
 
 -- ---- lines that are there stay as they are
 abbrev pub no_line : CertLine
@@ -130,39 +131,61 @@ found-extends old new places [] x a h = tt
 found-extends old new places (k ∷ ks) x a h =
     (ap (λ (r : Inequality). places (print_of r)) (row_of-extends old new x k a.0) ∙ h.0, found-extends old new places ks x a.1 h.1)
 
-pub Stands-extends : (old new : List CertLine) (kept : Kept) → Extends old new → are_within new ≡ true → Stands old kept → Stands new kept
-Stands-extends old new kept x w s = record {
-  within = w;
-  are_lines = AreLines-extends old new x kept.lines.items s.are_lines;
-  found = found-extends old new (λ p. is_some (get nat_eq kept.places p)) kept.lines.items x s.are_lines s.found;
-  few = s.few;
+pub Stands-extends : (old new : List CertLine) (ks : List ℕ) → Extends old new → are_within new ≡ true → Stands old ks → Stands new ks
+Stands-extends old new ks x w s = record { within = w; are_lines = AreLines-extends old new x ks s.are_lines; few = s.few }
+
+pub Stands-push : (lines : List CertLine) (ks next : List ℕ) (k : ℕ) → Stands lines ks → length ks < most_rows → k < length lines → next ≡ ks ++ k ∷ [] → Stands lines next
+Stands-push lines ks next k s room h e = record {
+  within = s.within;
+  are_lines = subst (AreLines lines) (sym e) (All-push (λ n. n < length lines) ks k s.are_lines h);
+  few = omega (arith, ap length e, length-append ks (k ∷ []));
+}
+
+HasTable-extends : (old new : List CertLine) (kept : Kept) → Extends old new → are_within new ≡ true → HasTable old kept → HasTable new kept
+HasTable-extends old new kept x w t = record {
+  stands = Stands-extends old new kept.lines.items x w t.stands;
+  found = found-extends old new (λ p. is_some (get nat_eq kept.places p)) kept.lines.items x t.stands.are_lines t.found;
 }
 
 -- what `add` leaves
-pub Stands-add : (lines : List CertLine) (kept next : Kept) (k : ℕ) → Stands lines kept → length kept.lines.items < most_rows → k < length lines → next.lines.items ≡ kept.lines.items ++ k ∷ [] →
+HasTable-add : (lines : List CertLine) (kept next : Kept) (k : ℕ) → HasTable lines kept → length kept.lines.items < most_rows → k < length lines → next.lines.items ≡ kept.lines.items ++ k ∷ [] →
     is_some (get nat_eq next.places (print_of (row_of lines k))) ≡ true →
-    ((p : ℕ) → is_some (get nat_eq kept.places p) ≡ true → is_some (get nat_eq next.places p) ≡ true) → Stands lines next
-Stands-add lines kept next k s room h e f g =
-    let ks = kept.lines.items in
+    ((p : ℕ) → is_some (get nat_eq kept.places p) ≡ true → is_some (get nat_eq next.places p) ≡ true) → HasTable lines next
+HasTable-add lines kept next k t room h e f g =
     let after = λ (p : ℕ). is_some (get nat_eq next.places p) in
     record {
-      within = s.within;
-      are_lines = subst (AreLines lines) (sym e) (All-push (λ n. n < length lines) ks k s.are_lines h);
+      stands = Stands-push lines kept.lines.items next.lines.items k t.stands room h e;
       found = subst (AllByRecursion (λ n. after (print_of (row_of lines n)) ≡ true)) (sym e)
-          (All-push (λ n. after (print_of (row_of lines n)) ≡ true) ks k (found-keeps lines (λ p. is_some (get nat_eq kept.places p)) after ks g s.found) f);
-      few = omega (arith, ap length e, length-append ks (k ∷ []));
+          (All-push (λ n. after (print_of (row_of lines n)) ≡ true) kept.lines.items k (found-keeps lines (λ p. is_some (get nat_eq kept.places p)) after kept.lines.items g t.found) f);
     }
 
-pub rows_of-add : (lines : List CertLine) (kept next : Kept) (k : ℕ) → next.lines.items ≡ kept.lines.items ++ k ∷ [] → rows_of lines next.lines.items ≡ rows_of lines kept.lines.items ++ row_of lines k ∷ []
-rows_of-add lines kept next k e = ap (rows_of lines) e ∙ map-append (row_of lines) kept.lines.items (k ∷ [])
+pub rows_of-push : (lines : List CertLine) (ks next : List ℕ) (k : ℕ) → next ≡ ks ++ k ∷ [] → rows_of lines next ≡ rows_of lines ks ++ row_of lines k ∷ []
+rows_of-push lines ks next k e = ap (rows_of lines) e ∙ map-append (row_of lines) ks (k ∷ [])
 
-pub has_kept : (old : List CertLine) (kept : Kept) (new : List CertLine) (next : Kept) (step : CertStep) (row : Inequality) (k : ℕ) → Stands old kept → length kept.lines.items < most_rows → HasLine old new step row k →
+pub has_kept : (old : List CertLine) (kept : Kept) (new : List CertLine) (next : Kept) (step : CertStep) (row : Inequality) (k : ℕ) → HasTable old kept → length kept.lines.items < most_rows → HasLine old new step row k →
     next.lines.items ≡ kept.lines.items ++ k ∷ [] →
     is_some (get nat_eq next.places (print_of (row_of new k))) ≡ true →
     ((p : ℕ) → is_some (get nat_eq kept.places p) ≡ true → is_some (get nat_eq next.places p) ≡ true) → HasKept old kept new next step row
 has_kept old kept new next step row k s room h e f g = record {
-  rows = rows_of-add new kept next k e ∙ ap₂ (λ (xs : List Inequality) (x : Inequality). xs ++ x ∷ []) (rows_of-extends old new h.extends kept.lines.items s.are_lines) h.row_here;
-  stands = Stands-add new kept next k (Stands-extends old new kept h.extends h.within s) room h.here e f g;
+  rows = rows_of-push new kept.lines.items next.lines.items k e ∙ ap₂ (λ (xs : List Inequality) (x : Inequality). xs ++ x ∷ []) (rows_of-extends old new h.extends kept.lines.items s.stands.are_lines) h.row_here;
+  table = HasTable-add new kept next k (HasTable-extends old new kept h.extends h.within s) room h.here e f g;
   extends = h.extends;
   derives = h.derives;
 }
+
+-- ---- the table, line by line
+-- what was found is found, and so is the new print
+pub still_found : (old new : ℕ → Option ℕ) (k place : ℕ) → ((q : ℕ) → new q ≡ cond (eqb k q) (Some place) (old q)) → (p : ℕ) → is_some (old p) ≡ true → is_some (new p) ≡ true
+still_found old new k place u p h = ap is_some (u p) ∙ by_test (eqb k p)
+  where
+    by_test : (t : Bool) → is_some (cond t (Some place) (old p)) ≡ true
+    by_test true = refl
+    by_test false = h
+
+-- the lines so far are found
+pub found_more : (lines : List CertLine) (ks : List ℕ) (i k : ℕ) (line : CertLine) (old new : ℕ → Bool) → AreLines lines ks → i < length ks → k ≡ get_or ks i k → ((p : ℕ) → old p ≡ true → new p ≡ true) → new (print_of (get_or lines k line).row) ≡ true →
+    AllByRecursion (λ n. old (print_of (row_of lines n)) ≡ true) (take i ks) → AllByRecursion (λ n. new (print_of (row_of lines n)) ≡ true) (take (i + 1) ks)
+found_more lines ks i k line old new ls h e g f a =
+    let here : k < length lines = subst (λ (n : ℕ). n < length lines) (sym e) (line_here lines ks i k ls h) in
+    subst (AllByRecursion (λ n. new (print_of (row_of lines n)) ≡ true)) (sym (take_more ks i k h ∙ ap (λ (n : ℕ). take i ks ++ n ∷ []) (sym e)))
+    (All-push (λ n. new (print_of (row_of lines n)) ≡ true) (take i ks) k (found-keeps lines old new (take i ks) g a) (ap (λ (x : Inequality). new (print_of x)) (row_of-got lines k line here) ∙ f))

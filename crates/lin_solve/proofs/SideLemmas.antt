@@ -1,6 +1,5 @@
 -- The rows of a turn by what they have of its variable.
-use Rattle.std.proofs.Common.{◌≡◌, ◌≢◌, ℕ, zero, suc, ◌+◌, ◌/◌, ◌<◌, ◌≤◌, ◌^◌, ◌⊎◌, inl, inr, ⊎_elim, Bool, true, false, cond, not, ◌||◌, nat_eq, List, [], ◌∷◌, ◌++◌, filter, length, drop, get_or, is_some, ℤ, pos, int_lt, int_le, unsigned_abs, ap, ap₂, sym, ◌∙◌, subst, append-nil, to_z, of_z, to_z-of_z, FitsSigned, arith}
-use Rattle.std.specs.HashMap.{get}
+use Rattle.std.proofs.Common.{◌≡◌, ◌≢◌, ℕ, zero, suc, ◌+◌, ◌/◌, ◌<◌, ◌≤◌, ◌^◌, ◌⊎◌, inl, inr, ⊎_elim, Bool, true, false, cond, not, ◌||◌, List, [], ◌∷◌, ◌++◌, filter, length, drop, get_or, ℤ, pos, int_lt, int_le, unsigned_abs, ap, ap₂, sym, ◌∙◌, subst, append-nil, to_z, of_z, to_z-of_z, FitsSigned, arith}
 use Rattle.std.proofs.lemmas.List.{drop_more, map-append}
 use Rattle.std.proofs.lemmas.List.Elements.{filter-append}
 use Rattle.std.proofs.lemmas.Bool.{cases_Bool, cases_eq, and_from, and_parts}
@@ -22,8 +21,7 @@ use Rattle.elimination.proofs.NextRows.{All-push}
 use Rattle.lin_solve.specs.declared.turning.Side.{Side}
 use Rattle.lin_solve.specs.declared.turning.Parted.{Parted}
 use Rattle.lin_solve.specs.Lines.{row_of, rows_of, Stands}
-use Rattle.lin_solve.specs.Print.{print_of}
-use Rattle.lin_solve.proofs.LineLemmas.{Stands-add, rows_of-add}
+use Rattle.lin_solve.proofs.LineLemmas.{Stands-push, rows_of-push}
 use Rattle.lin_solve.specs.Sides.{IsSide, AreSides, IsParted}
 
 -- ---- a coefficient, looked for part by part
@@ -97,10 +95,10 @@ AreSides-in lines v p rows sides side e s a = record {
   each = All-push (IsSide lines v) sides side a.each s;
 }
 
-same_stands : (lines : List CertLine) (rows : List Inequality) (v : ℕ) (row : Inequality) (old new : Parted) → has v row ≡ true → new.without ≡ old.without → IsParted lines rows v old → Stands lines new.without × (rows_of lines new.without.lines.items ≡ filter (λ r. not (has v r)) (rows ++ row ∷ []))
+same_stands : (lines : List CertLine) (rows : List Inequality) (v : ℕ) (row : Inequality) (old new : Parted) → has v row ≡ true → new.without ≡ old.without → IsParted lines rows v old → Stands lines new.without.items × (rows_of lines new.without.items ≡ filter (λ r. not (has v r)) (rows ++ row ∷ []))
 same_stands lines rows v row old new h e p = (
-  subst (Stands lines) (sym e) p.stands,
-  ap (λ k. rows_of lines k.lines.items) e ∙ p.without ∙ sym (filter-out (λ r. not (has v r)) rows row (ap not h)),
+  subst (λ ks. Stands lines ks.items) (sym e) p.stands,
+  ap (λ ks. rows_of lines ks.items) e ∙ p.without ∙ sym (filter-out (λ r. not (has v r)) rows row (ap not h)),
 )
 
 -- the row of a line with a coefficient below 0
@@ -130,18 +128,15 @@ parted-upper lines rows v old new side s t ew el eu p =
     }
 
 -- the row of a line without the variable
-pub parted-without : (lines : List CertLine) (rows : List Inequality) (v : ℕ) (old new : Parted) (k : ℕ) → coefficient (row_of lines k).parts v ≡ pos 0 → length old.without.lines.items < 2000 → k < length lines →
-    new.without.lines.items ≡ old.without.lines.items ++ k ∷ [] →
-    is_some (get nat_eq new.without.places (print_of (row_of lines k))) ≡ true →
-    ((p : ℕ) → is_some (get nat_eq old.without.places p) ≡ true → is_some (get nat_eq new.without.places p) ≡ true) →
-    new.lower ≡ old.lower → new.upper ≡ old.upper → IsParted lines rows v old → IsParted lines (rows ++ row_of lines k ∷ []) v new
-parted-without lines rows v old new k z room h e f g el eu p =
+pub parted-without : (lines : List CertLine) (rows : List Inequality) (v : ℕ) (old new : Parted) (k : ℕ) → coefficient (row_of lines k).parts v ≡ pos 0 → length old.without.items < 2000 → k < length lines →
+    new.without.items ≡ old.without.items ++ k ∷ [] → new.lower ≡ old.lower → new.upper ≡ old.upper → IsParted lines rows v old → IsParted lines (rows ++ row_of lines k ∷ []) v new
+parted-without lines rows v old new k z room h e el eu p =
     let row = row_of lines k in
     let n : is_lower v row ≡ false = ap (λ (c : ℤ). int_lt c (pos 0)) z in
     let u : is_upper v row ≡ false = ap (λ (c : ℤ). int_lt (pos 0) c) z in
     record {
-      stands = Stands-add lines old.without new.without k p.stands room h e f g;
-      without = rows_of-add lines old.without new.without k e ∙ ap (λ (rs : List Inequality). rs ++ row ∷ []) p.without ∙ sym (filter-in (λ r. not (has v r)) rows row (ap not (ap₂ ◌||◌ n u)));
+      stands = Stands-push lines old.without.items new.without.items k p.stands room h e;
+      without = rows_of-push lines old.without.items new.without.items k e ∙ ap (λ (rs : List Inequality). rs ++ row ∷ []) p.without ∙ sym (filter-in (λ r. not (has v r)) rows row (ap not (ap₂ ◌||◌ n u)));
       lower = subst (λ s. AreSides lines v (filter (is_lower v) (rows ++ row ∷ [])) s.items) (sym el) (AreSides-out lines v (is_lower v) rows row old.lower.items n p.lower);
       upper = subst (λ s. AreSides lines v (filter (is_upper v) (rows ++ row ∷ [])) s.items) (sym eu) (AreSides-out lines v (is_upper v) rows row old.upper.items u p.upper);
     }

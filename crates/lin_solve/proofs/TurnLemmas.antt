@@ -1,6 +1,7 @@
 -- The combinations of a turn, one after the other, and that they are those of the definition.
-use Rattle.std.proofs.Common.{◌≡◌, ℕ, ◌+◌, ◌/◌, ◌<◌, Bool, true, cond, List, [], ◌∷◌, map, fold, filter, length, drop, get_or, Option, Some, None, ℤ, pos, to_z, of_z, to_z-of_z, ap, ap₂, sym, refl, ◌∙◌, subst, arith}
+use Rattle.std.proofs.Common.{eqb, ◌⊎◌, inl, inr, ◌≡◌, ℕ, ◌+◌, ◌/◌, ◌<◌, Bool, true, cond, List, [], ◌∷◌, map, fold, filter, length, drop, get_or, Option, Some, None, ℤ, pos, to_z, of_z, to_z-of_z, ap, ap₂, sym, refl, ◌∙◌, subst, arith}
 use Rattle.std.specs.Int.{w128}
+use Rattle.std.proofs.lemmas.Bool.Decides.{Decides-eqb}
 use Rattle.std.specs.List.{AllByRecursion}
 use Rattle.whole_numbers.specs.Gcd.{gcd}
 use Rattle.lin_rows.specs.Inequality.{Inequality, is_within}
@@ -19,7 +20,7 @@ use Rattle.lin_solve.specs.declared.keeping.Tightened.{Tightened}
 use Rattle.lin_solve.specs.declared.turning.Side.{Side}
 use Rattle.lin_solve.specs.declared.turning.Parted.{Parted}
 use Rattle.lin_solve.specs.Answers.{EndsAs}
-use Rattle.lin_solve.specs.Lines.{row_of, rows_of, Extends, Stands, IsNew, HasKept, Goes}
+use Rattle.lin_solve.specs.Lines.{row_of, rows_of, Extends, Stands, HasTable, IsNew, HasKept, Goes, Leaves}
 use Rattle.lin_solve.specs.Sides.{IsCombinable, AreCombinable, sum_of, combined_with, combined_with_all, IsSide, AreSides, IsParted}
 use Rattle.lin_solve.proofs.KeptLemmas.{all_at}
 use Rattle.lin_solve.proofs.LineLemmas.{row_of-extends, row_of-read, longer, Extends-refl, Extends-trans, comb_gives, multiplier_fits}
@@ -61,11 +62,11 @@ pub sum_ends : (lines : List CertLine) (lower upper : Side) (step : CertStep) (r
 sum_ends lines lower upper step rows sum e s h = subst (EndsAs e) (sym (kept-sum lines lower upper step rows sum s)) h
 
 -- an equal row stands
-pub sum_there : (lines : List CertLine) (kept : Kept) (lower upper : Side) (step : CertStep) (sum : Inequality) (o : Option Tightened) → Stands lines kept → IsSumOf lines lower upper step sum → o ≡ None → IsNew (rows_of lines kept.lines.items) sum o →
+pub sum_there : (lines : List CertLine) (kept : Kept) (lower upper : Side) (step : CertStep) (sum : Inequality) (o : Option Tightened) → HasTable lines kept → IsSumOf lines lower upper step sum → o ≡ None → IsNew (rows_of lines kept.lines.items) sum o →
     Goes lines lines kept (kept_with_sum (rows_of lines kept.lines.items) (sum_of lines lower upper)) (λ _. Unit {0})
 sum_there lines kept lower upper step sum o st s e n = record {
   going = kept-sum lines lower upper step (rows_of lines kept.lines.items) sum s ∙ subst (IsNew (rows_of lines kept.lines.items) sum) e n;
-  stands = st;
+  table = st;
   extends = Extends-refl lines;
   derives = λ given f d. d;
 }
@@ -77,7 +78,7 @@ sum_kept old kept new next lower upper step sum o t s e n h =
     let fresh : IsNew (rows_of old kept.lines.items) sum (Some t) = subst (IsNew (rows_of old kept.lines.items) sum) e n in
     record {
       going = kept-sum old lower upper step (rows_of old kept.lines.items) sum s ∙ fresh.0 ∙ ap Going (sym h.rows);
-      stands = h.stands;
+      table = h.table;
       extends = h.extends;
       derives = λ given f d. h.derives given (s.gives given) d;
     }
@@ -103,7 +104,7 @@ combined_with-extends old new (s ∷ ss) p lower x l u =
 -- what the loops have done: the lines of `first` have grown, and the rows that stand lead to the whole
 pub record HasCombined (first lines : List CertLine) (kept : Kept) (left whole : Progress) : Type 0 where
   pub going : left ≡ whole
-  pub stands : Stands lines kept
+  pub table : HasTable lines kept
   pub extends : Extends first lines
   pub derives : (given : List Inequality) → IsDerivation given first → IsDerivation given lines
 
@@ -114,7 +115,7 @@ pub upper_taken : (first lines new : List CertLine) (kept next : Kept) (lower : 
 upper_taken first lines new kept next lower uppers i d whole l u h c g = record {
   going = taken_at (λ p upper. and_then p (λ rows. kept_with_sum rows (sum_of first lower upper))) (rows_of lines kept.lines.items) (rows_of new next.lines.items) uppers i d whole h c.going
       (ap (kept_with_sum (rows_of lines kept.lines.items)) (sym (sum_of-extends first lines lower (get_or uppers i d) c.extends l (all_at (IsCombinable first) uppers i d u h))) ∙ g.going);
-  stands = g.stands;
+  table = g.table;
   extends = Extends-trans first lines new c.extends g.extends;
   derives = λ given f. g.derives given tt (c.derives given f);
 }
@@ -138,7 +139,7 @@ pub lower_taken : (first lines new : List CertLine) (kept next : Kept) (lowers u
 lower_taken first lines new kept next lowers uppers i d whole l u h c g = record {
   going = taken_at (combined_with first uppers) (rows_of lines kept.lines.items) (rows_of new next.lines.items) lowers i d whole h c.going
       (sym (combined_with-extends first lines uppers (Going (rows_of lines kept.lines.items)) (get_or lowers i d) c.extends (all_at (IsCombinable first) lowers i d l h) u) ∙ g.going);
-  stands = g.stands;
+  table = g.table;
   extends = Extends-trans first lines new c.extends g.extends;
   derives = λ given f. g.derives given tt (c.derives given f);
 }
@@ -171,22 +172,45 @@ same_lowers lines v uppers [] p l u = refl
 same_lowers lines v uppers (s ∷ ss) p l u =
     ap (λ (q : Progress). combined_with_all lines uppers q ss) (same_uppers lines v uppers p s l.0 u) ∙ same_lowers lines v uppers ss (with_uppers v (map (λ s. row_of lines s.line) uppers) p (row_of lines s.line)) l.1 u
 
-next_rows-combined : (lines : List CertLine) (rows : List Inequality) (v : ℕ) (parted : Parted) → IsParted lines rows v parted → combined_with_all lines parted.upper.items (Going (rows_of lines parted.without.lines.items)) parted.lower.items ≡ next_rows v rows
+next_rows-combined : (lines : List CertLine) (rows : List Inequality) (v : ℕ) (parted : Parted) → IsParted lines rows v parted → combined_with_all lines parted.upper.items (Going (rows_of lines parted.without.items)) parted.lower.items ≡ next_rows v rows
 next_rows-combined lines rows v parted p =
-    same_lowers lines v parted.upper.items parted.lower.items (Going (rows_of lines parted.without.lines.items)) p.lower.each p.upper.each
-    ∙ ap₂ (λ (us ls : List Inequality). fold (with_uppers v us) (Going (rows_of lines parted.without.lines.items)) ls) p.upper.rows_here p.lower.rows_here
+    same_lowers lines v parted.upper.items parted.lower.items (Going (rows_of lines parted.without.items)) p.lower.each p.upper.each
+    ∙ ap₂ (λ (us ls : List Inequality). fold (with_uppers v us) (Going (rows_of lines parted.without.items)) ls) p.upper.rows_here p.lower.rows_here
     ∙ ap (λ (ws : List Inequality). fold (with_uppers v (filter (is_upper v) rows)) (Going ws) (filter (is_lower v) rows)) p.without
 
 -- as the code reads the lists
 pub combined-next_rows : (lines read : List CertLine) (ks : List ℕ) (v : ℕ) (parted : Parted) (lowers uppers : List Side) → read ≡ lines → lowers ≡ parted.lower.items → uppers ≡ parted.upper.items → IsParted read (rows_of read ks) v parted →
-    combined_with_all lines uppers (Going (rows_of lines parted.without.lines.items)) lowers ≡ next_rows v (rows_of lines ks)
+    combined_with_all lines uppers (Going (rows_of lines parted.without.items)) lowers ≡ next_rows v (rows_of lines ks)
 combined-next_rows lines read ks v parted lowers uppers e el eu p =
-    ap₂ (λ (us ls : List Side). combined_with_all lines us (Going (rows_of lines parted.without.lines.items)) ls) eu el
+    ap₂ (λ (us ls : List Side). combined_with_all lines us (Going (rows_of lines parted.without.items)) ls) eu el
     ∙ next_rows-combined lines (rows_of lines ks) v parted (subst (λ (ls : List CertLine). IsParted ls (rows_of ls ks) v parted) e p)
 
--- the rows without the variable stand among the lines
-pub parted_stands : (lines read : List CertLine) (rows : List Inequality) (v : ℕ) (parted : Parted) → read ≡ lines → IsParted read rows v parted → Stands lines parted.without
-parted_stands lines read rows v parted e p = subst (λ (ls : List CertLine). Stands ls parted.without) e p.stands
+-- no upper row, no combination
+pub is_nothing : {X : Type 0} (xs : List X) → true ≡ eqb (length xs) 0 → xs ≡ []
+is_nothing [] e = refl
+is_nothing (x ∷ xs) e = absurd (let z : length (x ∷ xs) ≡ 0 = (Decides-eqb (length (x ∷ xs)) 0).0 (sym e) in omega arith)
 
-pub Goes-same : (old new : List CertLine) (next : Kept) (p q : Progress) (From : List Inequality → Type 0) → p ≡ q → Goes old new next p From → Goes old new next q From
-Goes-same old new next p q From e g = record { going = sym e ∙ g.going; stands = g.stands; extends = g.extends; derives = g.derives }
+no_uppers : (lines : List CertLine) (p : Progress) (lowers : List Side) → combined_with_all lines [] p lowers ≡ p
+no_uppers lines p [] = refl
+no_uppers lines p (l ∷ ls) = no_uppers lines p ls
+
+no_pairs : (lines : List CertLine) (p : Progress) (lowers uppers : List Side) → (lowers ≡ []) ⊎ (uppers ≡ []) → combined_with_all lines uppers p lowers ≡ p
+no_pairs lines p lowers uppers (inl e) = ap (combined_with_all lines uppers p) e
+no_pairs lines p lowers uppers (inr e) = ap (λ (us : List Side). combined_with_all lines us p lowers) e ∙ no_uppers lines p lowers
+
+pub nothing_combined : (lines : List CertLine) (ks : List ℕ) (lowers uppers : List Side) → (lowers ≡ []) ⊎ (uppers ≡ []) → Stands lines ks → Leaves lines lines ks (combined_with_all lines uppers (Going (rows_of lines ks)) lowers) (λ _. Unit {0})
+nothing_combined lines ks lowers uppers n s = record {
+  going = no_pairs lines (Going (rows_of lines ks)) lowers uppers n;
+  stands = s;
+  derives = λ given f d. d;
+}
+
+pub Leaves-from : (old new : List CertLine) (ks : List ℕ) (next : Kept) (p q : Progress) → p ≡ q → Goes old new next q (λ _. Unit {0}) → next.lines.items ≡ ks → Leaves old new ks p (λ _. Unit {0})
+Leaves-from old new ks next p q e g k = record {
+  going = e ∙ g.going ∙ ap (λ (ms : List ℕ). Going (rows_of new ms)) k;
+  stands = subst (Stands new) k g.table.stands;
+  derives = g.derives;
+}
+
+pub Leaves-same : (old new : List CertLine) (ks : List ℕ) (p q : Progress) → p ≡ q → Leaves old new ks p (λ _. Unit {0}) → Leaves old new ks q (λ _. Unit {0})
+Leaves-same old new ks p q e l = record { going = sym e ∙ l.going; stands = l.stands; derives = l.derives }

@@ -36,12 +36,16 @@ abbrev pub AreFound : List CertLine → Kept → Type 0
 AreFound lines kept =
     AllByRecursion (λ k. IsTrue (is_some (get nat_eq kept.places (print_of (row_of lines k))))) kept.lines.items
 
--- the kept lines are lines within the limit, not too many, and found
-pub record Stands (lines : List CertLine) (kept : Kept) : Type 0 where
+-- these are lines, all lines are within the limit, and they are not too many
+pub record Stands (lines : List CertLine) (ks : List ℕ) : Type 0 where
   pub within : IsTrue (are_within lines)
-  pub are_lines : AreLines lines kept.lines.items
+  pub are_lines : AreLines lines ks
+  pub few : length ks ≤ most_rows
+
+-- and the table has the print of each
+pub record HasTable (lines : List CertLine) (kept : Kept) : Type 0 where
+  pub stands : Stands lines kept.lines.items
   pub found : AreFound lines kept
-  pub few : length kept.lines.items ≤ most_rows
 
 -- what a row is tightened to: itself, or the row cut by a number that divides its coefficients
 abbrev pub IsTightened : Inequality → Tightened → Type 0
@@ -66,13 +70,19 @@ pub record HasLine (old new : List CertLine) (step : CertStep) (row : Inequality
 -- such lines, of which the last is kept
 pub record HasKept (old : List CertLine) (kept : Kept) (new : List CertLine) (next : Kept) (step : CertStep) (row : Inequality) : Type 0 where
   pub rows : rows_of new next.lines.items ≡ rows_of old kept.lines.items ++ tightened row ∷ []
-  pub stands : Stands new next
+  pub table : HasTable new next
   pub extends : Extends old new
   pub derives : (given : List Inequality) → certificate.row_of given old step ≡ Some row → IsDerivation given old → IsDerivation given new
 
 -- the rows that stand are those of the definition, and from rows of this kind the lines are still derived
 pub record Goes (old new : List CertLine) (next : Kept) (progress : Progress) (From : List Inequality → Type 0) : Type 0 where
   pub going : progress ≡ Going (rows_of new next.lines.items)
-  pub stands : Stands new next
+  pub table : HasTable new next
   pub extends : Extends old new
+  pub derives : (given : List Inequality) → From given → IsDerivation given old → IsDerivation given new
+
+-- the same, where the table is of no use any more
+pub record Leaves (old new : List CertLine) (ks : List ℕ) (progress : Progress) (From : List Inequality → Type 0) : Type 0 where
+  pub going : progress ≡ Going (rows_of new ks)
+  pub stands : Stands new ks
   pub derives : (given : List Inequality) → From given → IsDerivation given old → IsDerivation given new

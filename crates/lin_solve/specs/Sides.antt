@@ -43,7 +43,7 @@ pub record AreSides (lines : List CertLine) (v : ℕ) (rows : List Inequality) (
   pub each : AllByRecursion (IsSide lines v) sides
 
 pub record IsParted (lines : List CertLine) (rows : List Inequality) (v : ℕ) (parted : Parted) : Type 0 where
-  pub stands : Stands lines parted.without
-  pub without : rows_of lines parted.without.lines.items ≡ filter (λ row. not (has v row)) rows
+  pub stands : Stands lines parted.without.items
+  pub without : rows_of lines parted.without.items ≡ filter (λ row. not (has v row)) rows
   pub lower : AreSides lines v (filter (is_lower v) rows) parted.lower.items
   pub upper : AreSides lines v (filter (is_upper v) rows) parted.upper.items

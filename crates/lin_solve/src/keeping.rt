@@ -8,7 +8,7 @@ ghost use Rattle.lin_rows.specs.Cut.{tightened};
 ghost use Rattle.lin_cert.specs.Certificate.{are_within};
 ghost use Rattle.elimination.specs.Elimination.{kept_with};
 ghost use Rattle.lin_solve.specs.Answers.{EndsAs};
-ghost use Rattle.lin_solve.specs.Lines.{AreLines, HasKept, HasLine, IsNew, IsTightened, Stands, row_of, rows_of};
+ghost use Rattle.lin_solve.specs.Lines.{AreLines, HasKept, HasLine, IsNew, IsTightened, HasTable, row_of, rows_of};
 ghost use Rattle.lin_solve.specs.Print as print_specs;
 
 use crate::{MOST_ROWS, SolveEnd};
@@ -17,7 +17,7 @@ use lin_rows::{Row, RowPart, cut, divisor};
 use std::alloc::{AllocError, Global};
 use std::collections::HashMap;
 
-/// The lines of the rows that stand, in order, and where a row of each print is among them.
+/// The lines of the rows that stand, in order, and a table of where a row of each print is among them.
 #[derive(Drop)]
 pub struct Kept {
     pub lines: Vec<u32>,
@@ -36,6 +36,8 @@ pub enum Tightened {
 impl Kept {
     ghost use Rattle.std.specs.Prelude.{◌≡◌, ◌<◌, ◌++◌, ◌∷◌, [], ℕ, length, OnOk, IsTrue, is_some, nat_eq};
     ghost use Rattle.std.specs.HashMap.{get};
+    ghost use Rattle.std.specs.Prelude.{IfOk};
+    ghost use Rattle.lin_solve.specs.Lines.{HasTable, Stands};
     ghost use Rattle.lin_solve.specs.Print.{print_of};
 
     /// No rows.
@@ -46,6 +48,23 @@ impl Kept {
             lines: Vec::new(alloc),
             places: HashMap::new(alloc),
         }
+    }
+
+    /// The rows of these lines.
+    pub fn of(alloc: Global, lines: &[CertLine], kept: Vec<u32>) -> Result<Kept, AllocError>
+        requires { Stands lines.now kept.items }
+        ensures table { IfOk result (HasTable lines.now) }
+        ensures lines { IfOk result (λ table. table.lines.items ≡ kept.items) }
+    {
+        let mut places = HashMap::new(alloc);
+        for place in 0..kept.len() {
+            let row = &lines[kept[place] as usize].row;
+            places.insert(print(row), place as u32)?;
+        }
+        Ok(Kept {
+            lines: kept,
+            places,
+        })
     }
 
     /// Keeps the row of a line.
@@ -79,7 +98,7 @@ pub fn push(lines: &mut Vec<CertLine>, step: CertStep, row: Row) -> Result<u32, 
 
 /// Whether a kept row equals this one.
 pub fn is_kept(lines: &[CertLine], kept: &Kept, row: &Row) -> bool
-    requires { Stands lines.now kept.now }
+    requires { HasTable lines.now kept.now }
     ensures { result ≡ list_any (λ r. same r row.now) (rows_of lines.now kept.now.lines.items) }
 {
     let Some(place) = kept.places.get(&print(row)) else {
@@ -127,7 +146,7 @@ fn tightening(alloc: Global, row: &Row) -> Result<Tightened, AllocError>
 
 /// Whether a kept row equals the tightened one.
 fn is_kept_already(lines: &[CertLine], kept: &Kept, row: &Row, new: &Tightened) -> bool
-    requires stands { Stands lines.now kept.now }
+    requires table { HasTable lines.now kept.now }
     requires tightened { IsTightened row.now new.now }
     ensures { result ≡ list_any (λ r. same r (tightened row.now)) (rows_of lines.now kept.now.lines.items) }
 {
@@ -144,7 +163,7 @@ pub fn tightened_if_new(
     kept: &Kept,
     row: &Row,
 ) -> Result<Option<Tightened>, SolveEnd>
-    requires stands { Stands lines.now kept.now }
+    requires table { HasTable lines.now kept.now }
     requires within { IsTrue (is_within row.now) }
     ensures new { IfOk result (IsNew (rows_of lines.now kept.now.lines.items) row.now) }
     ensures end { IfErr result (λ e. EndsAs e (kept_with (rows_of lines.now kept.now.lines.items) (tightened row.now))) }
@@ -187,7 +206,7 @@ pub fn keep(
     row: Row,
     new: Tightened,
 ) -> Result<(), SolveEnd>
-    requires stands { Stands lines.old.items kept.old }
+    requires table { HasTable lines.old.items kept.old }
     requires room { length kept.old.lines.items < 2000 }
     requires within { IsTrue (is_within row) }
     requires tightened { IsTightened row new }

@@ -9,7 +9,7 @@ mod turning;
 
 use lin_cert::Cert;
 use lin_rows::RowEnd;
-pub use solving::solve;
+pub use solving::{are_within, solve};
 use std::alloc::{AllocError, AllocFailed};
 
 /// The most rows that are kept at a time.

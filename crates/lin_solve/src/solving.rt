@@ -1,8 +1,8 @@
 //! The turns of an elimination, up to its end.
 
-ghost use Rattle.std.specs.Prelude.{◌≡◌, ◌<◌, ◌+◌, false, List, length, take, IfOk, IfErr, MatchOption, IsTrue};
+ghost use Rattle.std.specs.Prelude.{◌≡◌, ◌<◌, ◌+◌, false, List, length, take, IfOk, IfErr, MatchOption, IsTrue, ◌↔◌};
 ghost use Rattle.std.specs.List.{list_any, AllByRecursion};
-ghost use Rattle.lin_rows.specs.Inequality.{HaveNoSolution, is_within};
+ghost use Rattle.lin_rows.specs.Inequality.{HaveNoSolution};
 ghost use Rattle.lin_rows.specs.Inequality as row_specs;
 ghost use Rattle.elimination.specs.Elimination.{elimination};
 ghost use Rattle.lin_solve.specs.Answers.{IsAnswer, IsClosed, IsEnd};
@@ -13,14 +13,26 @@ use crate::starting::start;
 use crate::turning::next;
 use crate::{SolveEnd, Solved};
 use lin_cert::{Cert, CertLine};
-use lin_rows::{Row, is_contradiction};
+use lin_rows::{Row, is_contradiction, is_within};
 use std::alloc::Global;
+
+/// Whether no number of the rows is beyond 2^60, as `solve` wants it.
+pub fn are_within(rows: &[Row]) -> bool
+    ensures { IsTrue result ↔ AllByRecursion (λ row. IsTrue (row_specs.is_within row)) rows.now }
+{
+    for row in rows {
+        if !is_within(row) {
+            return false;
+        }
+    }
+    true
+}
 
 /// How the elimination of the rows ends, which have no number beyond 2^60.
 ///
 /// Closed has a certificate that `lin_cert::accepts` accepts for these rows, so they have no whole-number solution.
 pub fn solve(alloc: Global, rows: &[Row]) -> Result<Solved, SolveEnd>
-    requires { AllByRecursion (λ row. IsTrue (is_within row)) rows.now }
+    requires { AllByRecursion (λ row. IsTrue (row_specs.is_within row)) rows.now }
     // Each answer but want of memory is the end that the elimination of the rows has.
     ensures answer { IfOk result (IsAnswer rows.now) }
     ensures end { IfErr result (IsEnd rows.now) }
@@ -29,10 +41,10 @@ pub fn solve(alloc: Global, rows: &[Row]) -> Result<Solved, SolveEnd>
     let mut lines = Vec::new(alloc);
     let mut kept = start(alloc, rows, &mut lines)?;
     'turns: loop {
-        if let Some(line) = contradiction(&lines, &kept.lines) {
+        if let Some(line) = contradiction(&lines, &kept) {
             return Ok(Solved::Closed(certificate(lines, line)));
         }
-        let Some(variable) = choose(alloc, &lines, &kept.lines)? else {
+        let Some(variable) = choose(alloc, &lines, &kept)? else {
             return Ok(Solved::Open);
         };
         kept = next(alloc, &mut lines, &kept, variable)?;

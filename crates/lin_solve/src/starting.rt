@@ -7,7 +7,7 @@ ghost use Rattle.lin_rows.specs.Cut.{tightened};
 ghost use Rattle.lin_cert.specs.Certificate.{IsDerivation};
 ghost use Rattle.elimination.specs.Elimination.{kept_with, started, Going};
 ghost use Rattle.lin_solve.specs.Answers.{EndsAs};
-ghost use Rattle.lin_solve.specs.Lines.{Goes, Stands, rows_of};
+ghost use Rattle.lin_solve.specs.Lines.{Goes, HasTable, Stands, rows_of};
 
 use crate::SolveEnd;
 use crate::keeping::{Kept, keep, tightened_if_new};
@@ -16,11 +16,11 @@ use lin_rows::Row;
 use std::alloc::Global;
 
 /// Each row tightened, and of equal rows the first.
-pub fn start(alloc: Global, rows: &[Row], lines: &mut Vec<CertLine>) -> Result<Kept, SolveEnd>
+pub fn start(alloc: Global, rows: &[Row], lines: &mut Vec<CertLine>) -> Result<Vec<u32>, SolveEnd>
     requires within { AllByRecursion (λ r. IsTrue (is_within r)) rows.now }
     requires empty { lines.old.items ≡ [] }
-    ensures going { IfOk result (λ kept. started rows.now ≡ Going (rows_of lines.new.items kept.lines.items)) }
-    ensures stands { IfOk result (λ kept. Stands lines.new.items kept) }
+    ensures going { IfOk result (λ kept. started rows.now ≡ Going (rows_of lines.new.items kept.items)) }
+    ensures stands { IfOk result (λ kept. Stands lines.new.items kept.items) }
     ensures derives { IfOk result (λ _. IsDerivation rows.now lines.new.items) }
     ensures end { IfErr result (λ e. EndsAs e (started rows.now)) }
 {
@@ -28,7 +28,7 @@ pub fn start(alloc: Global, rows: &[Row], lines: &mut Vec<CertLine>) -> Result<K
     for i in 0..rows.len() {
         start_row(alloc, &rows[i], i, lines, &mut kept)?;
     }
-    Ok(kept)
+    Ok(kept.lines)
 }
 
 /// Keeps the given row of this number, unless an equal one is kept.
@@ -39,7 +39,7 @@ fn start_row(
     lines: &mut Vec<CertLine>,
     kept: &mut Kept,
 ) -> Result<(), SolveEnd>
-    requires stands { Stands lines.old.items kept.old }
+    requires table { HasTable lines.old.items kept.old }
     requires within { IsTrue (is_within row.now) }
     ensures goes { OnOk result (Goes lines.old.items lines.new.items kept.new
         (kept_with (rows_of lines.old.items kept.old.lines.items) (tightened row.now))

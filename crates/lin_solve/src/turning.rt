@@ -9,7 +9,7 @@ ghost use Rattle.lin_rows.specs.Sum.{is_multiplier};
 ghost use Rattle.lin_rows.specs.Sum as sum_specs;
 ghost use Rattle.elimination.specs.Elimination.{Going, kept_with_sum, next_rows};
 ghost use Rattle.lin_solve.specs.Answers.{EndsAs};
-ghost use Rattle.lin_solve.specs.Lines.{Goes, Stands, row_of, rows_of};
+ghost use Rattle.lin_solve.specs.Lines.{Goes, HasTable, Leaves, Stands, row_of, rows_of};
 ghost use Rattle.lin_solve.specs.Sides.{AreCombinable, IsCombinable, IsParted, combined_with, combined_with_all, sum_of};
 
 use crate::SolveEnd;
@@ -29,7 +29,7 @@ pub struct Side {
 /// The rows of a turn by what they have of its variable.
 #[derive(Drop)]
 pub struct Parted {
-    pub without: Kept,
+    pub without: Vec<u32>,
     pub lower: Vec<Side>,
     pub upper: Vec<Side>,
 }
@@ -52,15 +52,16 @@ impl Parted {
     fn add(&mut self, lines: &[CertLine], line: u32, variable: u32) -> Result<(), AllocError>
         requires here { line < length lines.now }
         requires within { IsTrue (are_within lines.now) }
-        requires room { length self.old.without.lines.items < 2000 }
+        requires room { length self.old.without.items < 2000 }
         ensures parted { OnOk result ((rows : List Inequality) → IsParted lines.now rows variable self.old →
             IsParted lines.now (rows ++ row_of lines.now line ∷ []) variable self.new) }
-        ensures few { OnOk result (length self.new.without.lines.items ≤ length self.old.without.lines.items + 1) }
+        ensures few { OnOk result (length self.new.without.items ≤ length self.old.without.items + 1) }
     {
         let row = &lines[line as usize].row;
         let times = coefficient(row, variable);
         if times == 0 {
-            return self.without.add(line, row);
+            self.without.push(line)?;
+            return Ok(());
         }
         let side = Side {
             line,
@@ -93,16 +94,21 @@ fn coefficient(row: &Row, variable: u32) -> i128
 }
 
 /// The kept rows by what they have of the variable.
-fn part(alloc: Global, lines: &[CertLine], kept: &Kept, variable: u32) -> Result<Parted, AllocError>
+fn part(
+    alloc: Global,
+    lines: &[CertLine],
+    kept: &[u32],
+    variable: u32,
+) -> Result<Parted, AllocError>
     requires { Stands lines.now kept.now }
-    ensures { IfOk result (IsParted lines.now (rows_of lines.now kept.now.lines.items) variable) }
+    ensures { IfOk result (IsParted lines.now (rows_of lines.now kept.now) variable) }
 {
     let mut parted = Parted {
-        without: Kept::new(alloc),
+        without: Vec::new(alloc),
         lower: Vec::new(alloc),
         upper: Vec::new(alloc),
     };
-    for line in &kept.lines {
+    for line in kept {
         parted.add(lines, *line, variable)?;
     }
     Ok(parted)
@@ -134,7 +140,7 @@ fn combine_pair(
     lower: Side,
     upper: Side,
 ) -> Result<(), SolveEnd>
-    requires stands { Stands lines.old.items kept.old }
+    requires table { HasTable lines.old.items kept.old }
     requires lower { IsCombinable lines.old.items lower }
     requires upper { IsCombinable lines.old.items upper }
     ensures goes { OnOk result (Goes lines.old.items lines.new.items kept.new
@@ -165,7 +171,7 @@ fn combine_with(
     lower: Side,
     uppers: &[Side],
 ) -> Result<(), SolveEnd>
-    requires stands { Stands lines.old.items kept.old }
+    requires table { HasTable lines.old.items kept.old }
     requires lower { IsCombinable lines.old.items lower }
     requires uppers { AreCombinable lines.old.items uppers.now }
     ensures goes { OnOk result (Goes lines.old.items lines.new.items kept.new
@@ -187,7 +193,7 @@ fn combine_all(
     lowers: &[Side],
     uppers: &[Side],
 ) -> Result<(), SolveEnd>
-    requires stands { Stands lines.old.items kept.old }
+    requires table { HasTable lines.old.items kept.old }
     requires lowers { AreCombinable lines.old.items lowers.now }
     requires uppers { AreCombinable lines.old.items uppers.now }
     ensures goes { OnOk result (Goes lines.old.items lines.new.items kept.new
@@ -201,25 +207,42 @@ fn combine_all(
     Ok(())
 }
 
+/// The rows without the variable, and the combinations of the others.
+fn combined(
+    alloc: Global,
+    lines: &mut Vec<CertLine>,
+    without: Vec<u32>,
+    lowers: &[Side],
+    uppers: &[Side],
+) -> Result<Vec<u32>, SolveEnd>
+    requires stands { Stands lines.old.items without.items }
+    requires lowers { AreCombinable lines.old.items lowers.now }
+    requires uppers { AreCombinable lines.old.items uppers.now }
+    ensures leaves { IfOk result (λ next. Leaves lines.old.items lines.new.items next.items
+        (combined_with_all lines.old.items uppers.now (Going (rows_of lines.old.items without.items)) lowers.now) (λ _. Unit {0})) }
+    ensures end { IfErr result (λ e. EndsAs e
+        (combined_with_all lines.old.items uppers.now (Going (rows_of lines.old.items without.items)) lowers.now)) }
+{
+    if lowers.is_empty() || uppers.is_empty() {
+        return Ok(without);
+    }
+    let mut kept = Kept::of(alloc, lines, without)?;
+    combine_all(alloc, lines, &mut kept, lowers, uppers)?;
+    Ok(kept.lines)
+}
+
 /// The rows that stand after the variable's turn.
 pub fn next(
     alloc: Global,
     lines: &mut Vec<CertLine>,
-    kept: &Kept,
+    kept: &[u32],
     variable: u32,
-) -> Result<Kept, SolveEnd>
+) -> Result<Vec<u32>, SolveEnd>
     requires { Stands lines.old.items kept.now }
-    ensures goes { IfOk result (λ next. Goes lines.old.items lines.new.items next
-        (next_rows variable (rows_of lines.old.items kept.now.lines.items)) (λ _. Unit {0})) }
-    ensures end { IfErr result (λ e. EndsAs e (next_rows variable (rows_of lines.old.items kept.now.lines.items))) }
+    ensures leaves { IfOk result (λ next. Leaves lines.old.items lines.new.items next.items
+        (next_rows variable (rows_of lines.old.items kept.now)) (λ _. Unit {0})) }
+    ensures end { IfErr result (λ e. EndsAs e (next_rows variable (rows_of lines.old.items kept.now))) }
 {
-    let mut parted = part(alloc, lines, kept, variable)?;
-    combine_all(
-        alloc,
-        lines,
-        &mut parted.without,
-        &parted.lower,
-        &parted.upper,
-    )?;
-    Ok(parted.without)
+    let parted = part(alloc, lines, kept, variable)?;
+    combined(alloc, lines, parted.without, &parted.lower, &parted.upper)
 }

@@ -11,4 +11,4 @@ returns-clause-kept c =
     let line = c.in_ok-last.ensures.lines in
     let at = row_of-read c.push_tightened.new.lines.items c.in_ok-last.last c.index.result.now line.here c.index.ensures in
     let found = ap (λ (r : Inequality). is_some (get nat_eq next.places (print_of r))) at ∙ c.in_ok-add.ensures.found in
-    has_kept c.args.lines.now.items c.args.kept.now c.push_tightened.new.lines.items next c.args.step c.args.row c.in_ok-last.last c.requires.stands c.requires.room line c.in_ok-add.ensures.lines found c.in_ok-add.ensures.others
+    has_kept c.args.lines.now.items c.args.kept.now c.push_tightened.new.lines.items next c.args.step c.args.row c.in_ok-last.last c.requires.table c.requires.room line c.in_ok-add.ensures.lines found c.in_ok-add.ensures.others

@@ -18,6 +18,6 @@ loop-i-preserved c =
     let g = c.in_ok-start_row.ensures.goes in
     record {
       going = taken (λ progress row. and_then progress (λ kept. kept_with kept (tightened row))) (rows_of c.loop-i.lines.items c.loop-i.kept.lines.items) _ c.args.rows.now c.loop-i.i c.index-rows-i.result (started c.args.rows.now) c.loop-i-test.true c.index-rows-i.is c.loop-i.invariant.going g.going;
-      stands = g.stands;
+      table = g.table;
       derives = g.derives c.args.rows.now (slice_get_read c.args.rows.now _ c.loop-i.i c.index-rows-i.result refl c.loop-i-test.true c.index-rows-i.is) c.loop-i.invariant.derives;
     }

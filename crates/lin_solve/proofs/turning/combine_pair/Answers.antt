@@ -21,7 +21,7 @@ pub returns-in_default-clause-goes : goal.returns-in_default-clause-goes
 returns-in_default-clause-goes c =
     let by = c.cancelling-by.ensures in
     let s = sum_made c.args.lines.now.items c.args.lower c.args.upper c.index.result.now c.index-2.result.now _ _ _ c.requires.lower c.requires.upper c.index.ensures c.index-2.ensures by.lower by.upper by.lower_multiplier by.upper_multiplier c.in_ok-sum.ensures.sum c.in_ok-sum.ensures.within in
-    sum_there c.args.lines.now.items c.args.kept.now c.args.lower c.args.upper _ _ _ c.requires.stands s c.in_default.is (subst (λ (ls : List CertLine). IsNew (rows_of ls c.args.kept.now.lines.items) c.in_ok-sum.sum c.in_ok-new.field-0) c.deref.ensures.value c.in_ok-new.ensures.new)
+    sum_there c.args.lines.now.items c.args.kept.now c.args.lower c.args.upper _ _ _ c.requires.table s c.in_default.is (subst (λ (ls : List CertLine). IsNew (rows_of ls c.args.kept.now.lines.items) c.in_ok-sum.sum c.in_ok-new.field-0) c.deref.ensures.value c.in_ok-new.ensures.new)
 
 pub returns-clause-goes : goal.returns-clause-goes
 returns-clause-goes c =
