@@ -1,4 +1,4 @@
-//! Tests of the arithmetic: rows, sums, cuts and certificates.
+//! Tests of the arithmetic: rows, sums, cuts, certificates and eliminations.
 #![tactic(auto)]
 
 #[cfg(test)]
@@ -7,3 +7,5 @@ mod certificates;
 mod made;
 #[cfg(test)]
 mod rows;
+#[cfg(test)]
+mod solving;

@@ -97,10 +97,10 @@ occurs-In v rows h = In-from_all v rows (In-from_distinct v (flat_map variables_
 pub record AtMost (rows : List Inequality) (v w : ℕ) : Type 0 where
   pub order : (cost rows v < cost rows w) ⊎ ((cost rows v ≡ cost rows w) × (v ≤ w))
 
-AtMost-refl : (rows : List Inequality) (v : ℕ) → AtMost rows v v
+pub AtMost-refl : (rows : List Inequality) (v : ℕ) → AtMost rows v v
 AtMost-refl rows v = record { order = inr (refl, omega arith) }
 
-AtMost-trans : (rows : List Inequality) (u v w : ℕ) → AtMost rows u v → AtMost rows v w → AtMost rows u w
+pub AtMost-trans : (rows : List Inequality) (u v w : ℕ) → AtMost rows u v → AtMost rows v w → AtMost rows u w
 AtMost-trans rows u v w a b = record { order = go (cost rows u) (cost rows v) (cost rows w) a.order b.order }
   where
     go : (x y z : ℕ) → (x < y) ⊎ ((x ≡ y) × (u ≤ v)) → (y < z) ⊎ ((y ≡ z) × (v ≤ w)) → (x < z) ⊎ ((x ≡ z) × (u ≤ w))
@@ -119,7 +119,7 @@ AtMost-same rows v w a b = go (cost rows v) (cost rows w) a.order b.order
     go x y (inr h) (inr k) = omega arith
 
 -- the earlier of two goes before both
-earlier-AtMost : (rows : List Inequality) (v w : ℕ) → AtMost rows (earlier rows v w) v × AtMost rows (earlier rows v w) w
+pub earlier-AtMost : (rows : List Inequality) (v w : ℕ) → AtMost rows (earlier rows v w) v × AtMost rows (earlier rows v w) w
 earlier-AtMost rows v w = by_test (is_before rows w v) refl
   where
     yes_before : (x y : ℕ) → (ltb x y || (eqb x y && ltb w v)) ≡ true → (x < y) ⊎ ((x ≡ y) × (w ≤ v))

@@ -79,7 +79,7 @@ turns-ended (suc n) e = turns-ended n e
 abbrev pub AllIn : List Inequality → List ℕ → Type 0
 AllIn rows vs = (w : ℕ) → occurs w rows ≡ true → In w vs
 
-fewer : (vs : List ℕ) (rows next : List Inequality) → AllIn rows vs → turn rows ≡ Going next → (live vs next < live vs rows) × AllIn next vs
+pub fewer : (vs : List ℕ) (rows next : List Inequality) → AllIn rows vs → turn rows ≡ Going next → (live vs next < live vs rows) × AllIn next vs
 fewer vs rows next among e =
     let t = turn-next rows next e in
     let o = chosen-occurs rows t.0 t.1 in

@@ -116,16 +116,16 @@ coefficient-sum left p right q v =
     ∙ ap₂ ◌+ℤ◌ (coefficient-multiplied p left v) (coefficient-multiplied q right v)
 
 -- ---- canonical parts are told by their coefficients
-coefficient_below : (v low : ℕ) (ps : List RowPart) → v < low → RisesFrom low ps → coefficient ps v ≡ pos 0
+pub coefficient_below : (v low : ℕ) (ps : List RowPart) → v < low → RisesFrom low ps → coefficient ps v ≡ pos 0
 coefficient_below v low [] h r = refl
 coefficient_below v low (p ∷ ps) h r =
     rw (ne_eqb p.var v (λ e. omega (arith, r.0))) (coefficient_below v (suc p.var) ps (omega (arith, r.0)) r.2)
 
-coefficient_first : (low : ℕ) (p : RowPart) (ps : List RowPart) → RisesFrom low (p ∷ ps) → coefficient (p ∷ ps) p.var ≡ p.times
+pub coefficient_first : (low : ℕ) (p : RowPart) (ps : List RowPart) → RisesFrom low (p ∷ ps) → coefficient (p ∷ ps) p.var ≡ p.times
 coefficient_first low p ps r =
     let z = coefficient_below p.var (suc p.var) ps (omega arith) r.2 in rw (eq-eqb p.var p.var refl) (omega (arith, ints))
 
-coefficient_rest : (low : ℕ) (p : RowPart) (ps : List RowPart) (v : ℕ) → RisesFrom low (p ∷ ps) → v ≢ p.var → coefficient (p ∷ ps) v ≡ coefficient ps v
+pub coefficient_rest : (low : ℕ) (p : RowPart) (ps : List RowPart) (v : ℕ) → RisesFrom low (p ∷ ps) → v ≢ p.var → coefficient (p ∷ ps) v ≡ coefficient ps v
 coefficient_rest low p ps v r n = rw (ne_eqb p.var v (λ e. n (sym e))) refl
 
 clash : (low : ℕ) (p : RowPart) (ps qs : List RowPart) → RisesFrom low (p ∷ ps) → RisesFrom (suc p.var) qs → ((v : ℕ) → coefficient (p ∷ ps) v ≡ coefficient qs v) → ⊥

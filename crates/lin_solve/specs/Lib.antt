@@ -1,0 +1,5 @@
+pub mod Answers
+pub mod Choice
+pub mod Lines
+pub mod Print
+pub mod Sides
