@@ -3,7 +3,7 @@ use Rattle.std.specs.Prelude.{IfOk}
 use Rattle.std.specs.declared.alloc.AllocError.{AllocError}
 use Rattle.type_check.specs.Fault.{form_left_out}
 use Rattle.lk_ast.specs.declared.tree.Fault.{Fault}
-use Rattle.std.proofs.Common.{◌≡◌, ℕ, List, [], ◌∷◌, Result, Ok, Err, subst, get_or, sym, ap, ◌∙◌, inl, inr}
+use Rattle.std.proofs.Common.{◌≡◌, ℕ, ◌<◌, List, [], ◌∷◌, map, Result, Ok, Err, subst, get_or, sym, ap, ◌∙◌, inl, inr}
 use Rattle.lk_ast.specs.declared.tree.File.{File}
 use Rattle.lk_ast.specs.ProgramTree.{ProgramTree, program_tree}
 use Rattle.slang_parser.specs.Grammar.{Reads}
@@ -13,7 +13,14 @@ use Rattle.fresh_check.specs.Output.{HasProgram, IsOutput, VerifiedIsSafe, verdi
 use Rattle.fresh_check.specs.Reports.{IsReport, report_bytes, report_code}
 use Rattle.fresh_check.specs.declared.report.Report.{Report}
 use Rattle.fresh_check.specs.declared.report.Report.TheVariants as reports
-use Rattle.method_check.proofs.VerdictLaws.{safe_from_verified}
+use Rattle.std.specs.List.{All}
+use Rattle.std.proofs.lemmas.List.{length-map, get_or-map}
+use Rattle.lk_ast.specs.declared.typed.Method.{Method}
+use Rattle.lk_ast.specs.declared.typed.Typed.{Typed}
+use Rattle.lk_ast.specs.ProgramTree.{method_tree}
+use Rattle.lk_ast.specs.WellTyped.{IsWellTypedMethod, IsWellTypedProgram}
+use Rattle.type_check.proofs.WellTyped.{gives_well_typed}
+use Rattle.method_check.proofs.VerdictLaws.{verified_is_safe as method_is_safe}
 
 pub output_of : (bytes text : List ℕ) (code : ℕ) (report : Report) → IsReport bytes report → text ≡ report_bytes 1 report → code ≡ report_code report → IsOutput bytes text code
 output_of bytes text code (reports.Faults faults) (none, one) written counted =
@@ -21,8 +28,19 @@ output_of bytes text code (reports.Faults faults) (none, one) written counted =
 output_of bytes text code (reports.Verdicts typed lines) (has, all) written counted =
     inl (program_tree typed, has, (written ∙ ap (verdicts_text 1 typed.nodes) all, counted ∙ ap verdicts_code all))
 
+-- the methods of a program that is well typed
+pub methods_of : (typed : Typed) → IsWellTypedProgram (program_tree typed) → (methods : List Method) → methods ≡ typed.methods → All (λ method. IsWellTypedMethod (method_tree method)) methods
+methods_of typed well methods is k d within =
+    let inside = subst (λ n. k < n) (sym (length-map methods method_tree)) within in
+    subst IsWellTypedMethod (get_or-map method_tree methods k d (method_tree d) within)
+    (subst (λ (ms : List Method). All IsWellTypedMethod (map method_tree ms)) (sym is) well k (method_tree d) inside)
+
+-- the program of a text is well typed
+well_typed : (bytes : List ℕ) (program : ProgramTree) → HasProgram bytes program → IsWellTypedProgram program
+well_typed bytes program (file, reads, typed, is) = subst IsWellTypedProgram (sym is) (gives_well_typed file typed)
+
 pub verified_is_safe : (bytes : List ℕ) → VerifiedIsSafe bytes
-verified_is_safe bytes program has k d within verified = safe_from_verified (get_or program.methods k d) verified
+verified_is_safe bytes program has k d within verified = method_is_safe (get_or program.methods k d) (well_typed bytes program has k d within) verified
 
 -- a text that has one tree at most has one program at most
 one_program : (bytes : List ℕ) → ((a b : File) → Reads bytes a → Reads bytes b → a ≡ b) → (p q : ProgramTree) → HasProgram bytes p → HasProgram bytes q → p ≡ q

@@ -6,7 +6,7 @@ use Rattle.lk_ast.specs.ProgramTree.{MethodTree, ProgramTree}
 use Rattle.slang_parser.specs.Grammar.{Reads}
 use Rattle.type_check.specs.Fault.{form_left_out}
 use Rattle.type_check.specs.Typing.{IsWellTyped, program_of}
-use Rattle.method_check.specs.Runs.{IsSafe}
+use Rattle.method_runs.specs.Runs.{IsSafe}
 use Rattle.method_check.specs.Verdicts.{verdict}
 use Rattle.fresh_check.specs.Texts.{faults_text, verdicts_text, verified_count}
 use Rattle.fresh_check.specs.declared.report.Line.{Line}

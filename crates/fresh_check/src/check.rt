@@ -1,5 +1,7 @@
 ghost use Rattle.std.specs.Prelude.{◌≡◌, ◌≤◌, ◌∷◌, [], ℕ, List, map, IfOk, OnOk};
+ghost use Rattle.std.specs.List.{All};
 ghost use Rattle.lk_ast.specs.ProgramTree.{method_tree};
+ghost use Rattle.lk_ast.specs.WellTyped.{IsWellTypedMethod};
 ghost use Rattle.fresh_check.specs.Output.{IsOutput, VerifiedIsSafe, verdict_lines};
 ghost use Rattle.fresh_check.specs.Reports.{IsReport};
 
@@ -18,8 +20,9 @@ pub struct Checked {
     pub code: u8,
 }
 
-/// The verdict on each method, in order.
+/// The verdict on each method, in order. The methods are well typed.
 fn lines_of(alloc: Global, methods: &[Method]) -> Result<Items<Line>, AllocError>
+    requires { All (λ method. IsWellTypedMethod (method_tree method)) methods.now }
     ensures { IfOk result (λ it. it ≡ verdict_lines (map method_tree methods.now)) }
 {
     let mut lines = Items::new(alloc);

@@ -1,15 +1,16 @@
 -- The items of a leg as plain data.
 use Rattle.std.specs.Prelude.{ℕ, List, map}
-use Rattle.lk_ast.specs.ClaimTree.{ClaimTree, claim_tree}
+use Rattle.slang_values.specs.Tree.{Tree}
+use Rattle.lk_ast.specs.ClaimTree.{claim_tree}
 use Rattle.lk_ast.specs.declared.check.Kind.{Kind}
 use Rattle.lk_ast.specs.declared.check.Item.{Item}
 use Rattle.lk_ast.specs.declared.check.Leg.{Leg}
 use Rattle.lk_ast.specs.declared.check.Item.TheVariants as items
 
 pub data ItemTree : Type 0 where
-  assume : (claim : ClaimTree) → ItemTree
-  check : (kind : Kind) (claim : ClaimTree) → ItemTree
-  set : (variable : ℕ) (claim : ClaimTree) → ItemTree
+  assume : (claim : Tree ℕ) → ItemTree
+  check : (kind : Kind) (claim : Tree ℕ) → ItemTree
+  set : (variable : ℕ) (claim : Tree ℕ) → ItemTree
 
 abbrev pub item_tree : Item → ItemTree
 item_tree (items.Assume claim) = assume (claim_tree claim)

@@ -1,6 +1,8 @@
 -- A typed program as plain data.
 use Rattle.std.specs.Prelude.{ℕ, List, map}
-use Rattle.lk_ast.specs.ClaimTree.{ClaimTree, claim_tree}
+use Rattle.slang_values.specs.Tree.{Tree}
+use Rattle.lk_ast.specs.ClaimTree.{claim_tree}
+use Rattle.lk_ast.specs.TypedExpr.{TypedExpr, typed_expr}
 use Rattle.lk_ast.specs.declared.typed.Ty.{Ty}
 use Rattle.lk_ast.specs.declared.typed.FieldTy.{FieldTy}
 use Rattle.lk_ast.specs.declared.typed.Noted.{Noted}
@@ -12,12 +14,12 @@ use Rattle.lk_ast.specs.declared.typed.Typed.{Typed}
 
 -- a claim of the text, with the number of its node
 pub record NotedTree : Type 0 where
-  pub claim : ClaimTree
+  pub claim : Tree ℕ
   pub node : ℕ
 
 -- A statement: a variable gets a value, or a claim is to hold. A return gives the method's result its value.
 pub data CodeTree : Type 0 where
-  set : (node variable : ℕ) (value : ClaimTree) → CodeTree
+  set : (node variable : ℕ) (value : TypedExpr) → CodeTree
   assert : (noted : NotedTree) → CodeTree
 
 -- a method with its contract and its body; its variables are its parameters, its `val`s and its result, numbered in order
@@ -40,9 +42,9 @@ abbrev pub noted_tree : Noted → NotedTree
 noted_tree noted = record { claim = claim_tree noted.claim; node = noted.node.0 }
 
 abbrev pub code_tree : Code → CodeTree
-code_tree (codes.Val node variable value) = set node.0 variable (claim_tree value)
+code_tree (codes.Val node variable value) = set node.0 variable (typed_expr value)
 code_tree (codes.Assert noted) = assert (noted_tree noted)
-code_tree (codes.Return node result value) = set node.0 result (claim_tree value)
+code_tree (codes.Return node result value) = set node.0 result (typed_expr value)
 
 abbrev pub method_tree : Method → MethodTree
 method_tree method = record {

@@ -1,4 +1,5 @@
-use crate::typed::{Claim, NodeNo, Ty};
+use crate::claim::Claim;
+use crate::typed::{NodeNo, Ty};
 use sqlite_items::Items;
 
 /// What a check is made for.

@@ -81,20 +81,47 @@ pub struct Param {
 /// A type as it stands in the text, with the place of its first token.
 #[derive(Clone, Copy, Debug, PartialEq, Eq)]
 pub enum TypeName {
+    Z(Place),
     B(Place),
     Unit(Place),
+}
+
+/// An operator between two operands. The four implications are `__>:`, `___>:`, `->:` and `-->:` in this order, and those
+/// with the word conditional leave out the right operand where the left is false.
+#[derive(Clone, Copy, Debug, PartialEq, Eq)]
+pub enum Operator {
+    LooseImply,
+    LooseCondImply,
+    Or,
+    And,
+    Eq,
+    Ne,
+    Lt,
+    Le,
+    Gt,
+    Ge,
+    Imply,
+    CondImply,
+    Add,
+    Sub,
+    Mul,
+    Div,
+    Rem,
 }
 
 /// An expression. The place is that of the first token, and of a binary expression that of its left operand. Round
 /// brackets leave nothing in the tree, and the place of what they hold is its own.
 #[derive(Drop)]
 pub enum Expr {
+    Number(Place, i128),
     True(Place),
     False(Place),
     Name(Name),
     /// `Res`, the result of the method.
     Res(Place),
+    /// `-` in front of its operand.
+    Minus(Place, Boxed<Expr>),
+    /// `!` in front of its operand.
     Not(Place, Boxed<Expr>),
-    And(Place, Boxed<Expr>, Boxed<Expr>),
-    Or(Place, Boxed<Expr>, Boxed<Expr>),
+    Binary(Place, Operator, Boxed<Expr>, Boxed<Expr>),
 }

@@ -1,7 +1,11 @@
 ghost use Rattle.std.specs.Prelude.{◌≡◌, IfOk};
+ghost use Rattle.lk_ast.specs.ClaimTree.{claim_tree};
+ghost use Rattle.lk_ast.specs.TypedExpr.{typed_expr, claim_of};
 
+use crate::claim::Claim;
 use crate::text::Text;
-use crate::tree::Place;
+use crate::tree::{Operator, Place};
+use slang_values::Unary;
 use sqlite_items::{Boxed, Items};
 use std::alloc::{AllocError, Global};
 
@@ -13,6 +17,7 @@ pub struct NodeNo(pub u32);
 #[derive(Clone, Copy, Debug, PartialEq, Eq)]
 pub enum Ty {
     Unit,
+    Z,
     B,
 }
 
@@ -21,39 +26,6 @@ pub enum Ty {
 pub struct FieldTy {
     pub name: Text,
     pub ty: Ty,
-}
-
-/// A claim over the variables of a method or of a leg, each by its number.
-#[derive(Drop)]
-pub enum Claim {
-    True,
-    False,
-    Var(u32),
-    Not(Boxed<Claim>),
-    And(Boxed<Claim>, Boxed<Claim>),
-    Or(Boxed<Claim>, Boxed<Claim>),
-}
-
-impl Claim {
-    /// Another copy of this claim.
-    pub fn copy(&self, alloc: Global) -> Result<Claim, AllocError>
-        ensures { IfOk result (λ c. c ≡ self.now) }
-    {
-        match self {
-            Claim::True => Ok(Claim::True),
-            Claim::False => Ok(Claim::False),
-            Claim::Var(number) => Ok(Claim::Var(*number)),
-            Claim::Not(claim) => Ok(Claim::Not(Boxed::new(alloc, claim.get().copy(alloc)?)?)),
-            Claim::And(left, right) => Ok(Claim::And(
-                Boxed::new(alloc, left.get().copy(alloc)?)?,
-                Boxed::new(alloc, right.get().copy(alloc)?)?,
-            )),
-            Claim::Or(left, right) => Ok(Claim::Or(
-                Boxed::new(alloc, left.get().copy(alloc)?)?,
-                Boxed::new(alloc, right.get().copy(alloc)?)?,
-            )),
-        }
-    }
 }
 
 /// A claim of the text, with its node.
@@ -69,6 +41,39 @@ pub struct NodePlace {
     pub place: Place,
 }
 
+/// An expression of the program over the variables of its method, each part with its node.
+#[derive(Drop)]
+pub enum Expr {
+    Lit(NodeNo, i128),
+    Truth(NodeNo, bool),
+    Var(NodeNo, u32),
+    Unary(NodeNo, Unary, Boxed<Expr>),
+    Binary(NodeNo, Operator, Boxed<Expr>, Boxed<Expr>),
+}
+
+impl Expr {
+    /// The claim that has the value of this expression, where none of its divisions is by 0.
+    #[tactic(auto, using(crate::proofs::Trees::claim_lines, crate::proofs::Trees::typed_lines))]
+    pub fn claim(&self, alloc: Global) -> Result<Claim, AllocError>
+        ensures { IfOk result (λ c. claim_tree c ≡ claim_of (typed_expr self.now)) }
+    {
+        match self {
+            Expr::Lit(_, number) => Ok(Claim::Lit(*number)),
+            Expr::Truth(_, value) => Ok(Claim::Truth(*value)),
+            Expr::Var(_, number) => Ok(Claim::Var(*number)),
+            Expr::Unary(_, op, operand) => {
+                let operand = operand.get().claim(alloc)?;
+                Claim::unary(alloc, *op, operand)
+            }
+            Expr::Binary(_, operator, left, right) => {
+                let left = left.get().claim(alloc)?;
+                let right = right.get().claim(alloc)?;
+                Claim::connected(alloc, *operator, left, right)
+            }
+        }
+    }
+}
+
 /// A statement over the variables of its method.
 #[derive(Drop)]
 pub enum Code {
@@ -76,7 +81,7 @@ pub enum Code {
     Val {
         node: NodeNo,
         variable: u32,
-        value: Claim,
+        value: Expr,
     },
     /// The claim is to hold here.
     Assert(Noted),
@@ -84,7 +89,7 @@ pub enum Code {
     Return {
         node: NodeNo,
         result: u32,
-        value: Claim,
+        value: Expr,
     },
 }
 

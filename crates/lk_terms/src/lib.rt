@@ -1,4 +1,4 @@
-//! Terms over numbered symbols, sequents of terms, and substitution.
+//! Terms over numbered symbols, their linear forms, sequents of terms, and substitution.
 #![tactic(auto)]
 
 mod closed;
@@ -12,6 +12,7 @@ pub use closed::is_closed;
 pub use sequent::Sequent;
 pub use step::StepTerm;
 pub use substitution::substitute;
+pub use term_forms::{Form, FormEnd, Part, form_term, linear_form};
 pub use term_trees::{Shape, Sort, Term};
 pub use term_walks::{TermSize, compare, copy, measure};
 

@@ -1,14 +1,7 @@
-pub mod CaseLaws
-pub mod CaseTrees
 pub mod ExecSteps
-pub mod FactCases
-pub mod LegLaws
+pub mod GuardedClaims
 pub mod LegSteps
 pub mod LegTrees
-pub mod Lists
-pub mod Negations
-pub mod RunLaws
 pub mod StoreLaws
-pub mod TermTrees
 pub mod VerdictLaws
 pub mod VerdictTrees

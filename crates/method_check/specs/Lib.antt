@@ -1,13 +1,4 @@
 pub mod Answers
-pub mod Cases
-pub mod Closing
-pub mod Ends
-pub mod Legs
-pub mod Measures
-pub mod Runs
-pub mod Sequents
 pub mod Steps
-pub mod TermTree
-pub mod Validity
-pub mod Values
+pub mod TypedLegs
 pub mod Verdicts

@@ -5,7 +5,8 @@ use Rattle.lk_ast.specs.declared.check.Answer.{Answer}
 use Rattle.lk_ast.specs.declared.check.Answer.TheVariants as answers
 use Rattle.lk_ast.specs.declared.typed.NodeNo.{NodeNo}
 use Rattle.lk_ast.specs.ProgramTree.{MethodTree}
-use Rattle.method_check.specs.Legs.{items_of, legs, nodes_of}
+use Rattle.lk_ast.specs.WellTyped.{variable_types}
+use Rattle.method_runs.specs.Legs.{items_of, legs, nodes_of}
 use Rattle.method_check.specs.Answers.{answer}
 use Rattle.method_check.specs.declared.verdicts.Verdict.{Verdict}
 use Rattle.method_check.specs.declared.verdicts.Verdict.TheVariants as verdicts
@@ -20,7 +21,7 @@ abbrev pub verdict_of : List (List NodeNo) → List Answer → Verdict
 verdict_of nodes found = unwrap_or (slice_get (filter_map (λ leg. located leg.0 leg.1) (zip nodes found)) 0) verdicts.Verified
 
 abbrev pub verdict : MethodTree → Verdict
-verdict method = verdict_of (map nodes_of (legs method)) (map (λ leg. answer (items_of leg)) (legs method))
+verdict method = verdict_of (map nodes_of (legs method)) (map (λ leg. answer (variable_types method) (items_of leg)) (legs method))
 
 abbrev pub is_verified : Verdict → Bool
 is_verified verdicts.Verified = true

@@ -1,51 +1,48 @@
-ghost use Rattle.std.specs.Prelude.{◌≡◌, ◌<◌, ℕ, length, IfOk, OnOk};
+ghost use Rattle.std.specs.Prelude.{◌≡◌, ◌<◌, ℕ, length, map, IfOk, OnOk};
+ghost use Rattle.term_trees.specs.Term.{tree};
 ghost use Rattle.lk_ast.specs.ClaimTree.{claim_tree};
-ghost use Rattle.method_check.specs.TermTree.{term_of, term_tree, with_term};
+ghost use Rattle.method_runs.specs.Store.{term_of, with_term};
 ghost use Rattle.method_check.specs.Steps.{store_of};
 
-use crate::term::Term;
 use lk_ast::Claim;
-use sqlite_items::{Boxed, Items};
+use lk_terms::{Term, copy};
+use sqlite_items::Items;
 use std::alloc::{AllocError, Global};
 
 /// The term of a variable.
-#[tactic(auto, using(crate::proofs::TermTrees::terms_by_variant))]
+#[tactic(auto, using(term_trees::proofs::Trees::leaf_lines))]
 fn term_at(alloc: Global, terms: &[Term], variable: u32) -> Result<Term, AllocError>
-    ensures { IfOk result (λ term. term_tree term ≡ store_of terms.now variable) }
+    ensures { IfOk result (λ term. tree term ≡ store_of terms.now variable) }
 {
     match terms.get(variable as usize) {
-        Some(term) => term.copy(alloc),
+        Some(term) => copy(alloc, term),
         None => Ok(Term::Symbol(variable)),
     }
 }
 
 /// The term of a claim, whose variables have these terms.
-#[tactic(auto, using(crate::proofs::TermTrees::terms_by_variant, lk_ast::proofs::Trees::trees))]
+#[tactic(auto, using(term_trees::proofs::Trees::leaf_lines, lk_ast::proofs::Trees::claim_lines))]
 pub fn term_of(alloc: Global, terms: &[Term], claim: &Claim) -> Result<Term, AllocError>
-    ensures { IfOk result (λ term. term_tree term ≡ term_of (store_of terms.now) (claim_tree claim.now)) }
+    ensures { IfOk result (λ term. tree term ≡ term_of (store_of terms.now) (claim_tree claim.now)) }
 {
     match claim {
-        Claim::True => Ok(Term::True),
-        Claim::False => Ok(Term::False),
+        Claim::Lit(number) => Ok(Term::Lit(*number)),
+        Claim::Truth(value) => Ok(Term::truth(*value)),
         Claim::Var(number) => term_at(alloc, terms, *number),
-        Claim::Not(claim) => {
-            let term = term_of(alloc, terms, claim.get())?;
-            Ok(Term::Not(Boxed::new(alloc, term)?))
+        Claim::Unary(op, part) => {
+            let part = term_of(alloc, terms, part.get())?;
+            Term::unary(alloc, *op, part)
         }
-        Claim::And(left, right) => {
+        Claim::Binary(op, left, right) => {
             let left = term_of(alloc, terms, left.get())?;
             let right = term_of(alloc, terms, right.get())?;
-            Ok(Term::And(Boxed::new(alloc, left)?, Boxed::new(alloc, right)?))
-        }
-        Claim::Or(left, right) => {
-            let left = term_of(alloc, terms, left.get())?;
-            let right = term_of(alloc, terms, right.get())?;
-            Ok(Term::Or(Boxed::new(alloc, left)?, Boxed::new(alloc, right)?))
+            Term::binary(alloc, *op, left, right)
         }
     }
 }
 
 /// Makes the list longer than a place. What is added stands for variables that have not been set.
+#[tactic(auto, using(term_trees::proofs::Trees::leaf_lines))]
 fn reach(terms: &mut Items<Term>, place: u32) -> Result<(), AllocError>
     ensures same { OnOk result ((number : ℕ) → store_of terms.new number ≡ store_of terms.old number) }
     ensures long { OnOk result (place < length terms.new) }
@@ -59,9 +56,20 @@ fn reach(terms: &mut Items<Term>, place: u32) -> Result<(), AllocError>
 
 /// The variable has this term from now on.
 pub fn set(terms: &mut Items<Term>, variable: u32, term: Term) -> Result<(), AllocError>
-    ensures { OnOk result ((number : ℕ) → store_of terms.new number ≡ with_term (store_of terms.old) variable (term_tree term) number) }
+    ensures { OnOk result ((number : ℕ) → store_of terms.new number ≡ with_term (store_of terms.old) variable (tree term) number) }
 {
     reach(terms, variable)?;
     terms.set(variable as usize, term);
     Ok(())
+}
+
+/// Copies of terms.
+pub fn copies(alloc: Global, terms: &[Term]) -> Result<Items<Term>, AllocError>
+    ensures { IfOk result (λ it. map tree it ≡ map tree terms.now) }
+{
+    let mut copies = Items::new(alloc);
+    for term in terms {
+        copies.push(copy(alloc, term)?)?;
+    }
+    Ok(copies)
 }

@@ -1,15 +1,20 @@
-ghost use Rattle.std.specs.Prelude.{◌≡◌, ◌<◌, ◌-◌, ◌^◌, [], ◌∷◌, ◌++◌, ◌+◌, ℕ, Some, None, true, IfOk, IfErr, OnOk, Err};
+ghost use Rattle.std.specs.Prelude.{◌≡◌, ◌<◌, ◌-◌, ◌^◌, [], ◌∷◌, ◌++◌, ◌+◌, ℕ, Some, None, true, map, IfOk, IfErr, OnOk, Err};
+ghost use Rattle.std.specs.List.{All};
+ghost use Rattle.term_trees.specs.Term.{tree};
+ghost use Rattle.lk_terms.specs.Sequent.{sequent_of};
+ghost use Rattle.lk_terms.specs.Validity.{IsWellSorted};
 ghost use Rattle.lk_ast.specs.ClaimTree.{claim_tree};
-ghost use Rattle.lk_ast.specs.LegTree.{leg_items};
-ghost use Rattle.method_check.specs.TermTree.{sequent_tree, term_of, term_tree, with_term, is_small};
-ghost use Rattle.method_check.specs.Ends.{trees};
-ghost use Rattle.method_check.specs.Steps.{IsExecEnd, IsNext, IsPast, store_of};
+ghost use Rattle.lk_ast.specs.WellTyped.{IsVariableType};
+ghost use Rattle.method_runs.specs.Store.{term_of, with_term, is_small};
+ghost use Rattle.method_runs.specs.Sequents.{sequent};
+ghost use Rattle.method_check.specs.Steps.{AreSorted, IsExecEnd, IsNext, IsPast, pending, store_of};
 ghost use Rattle.method_check.specs.declared.sym_exec.ExecEnd.{ExecEnd as End};
 
-use crate::measure::measure_of;
-use crate::store::{set, term_of};
-use crate::term::{Sequent, Term, add_copies};
-use lk_ast::{Claim, Item, Kind, Leg};
+use crate::measure::is_small;
+use crate::sorts::sorts_of;
+use crate::store::{copies, set, term_of};
+use lk_ast::{Claim, Item, Kind, Leg, Ty};
+use lk_terms::{Sequent, Term};
 use sqlite_items::Items;
 use std::alloc::{AllocError, Global};
 
@@ -77,11 +82,14 @@ impl Exec {
         }
     }
 
-    /// The next sequent of the leg. After an error there is the same error again.
+    /// The next sequent of the leg. After an error there is the same error again. All sequents that are to come are well sorted, as
+    /// those of a well-typed leg are.
     pub fn next(&mut self, leg: &Leg) -> Result<Next, ExecEnd>
-        ensures next { IfOk result (λ next. IsNext next self.old self.new (leg_items leg.now)) }
+        requires variables { All IsVariableType leg.now.vars }
+        requires sorted { self.old.end ≡ None → AreSorted (pending self.old leg.now) }
+        ensures next { IfOk result (λ next. IsNext next self.old self.new leg.now) }
         ensures goes_on { IfOk result (λ _. (self.old.end ≡ None) × (self.new.end ≡ None)) }
-        ensures end { self.old.end ≡ None → IfErr result (λ end. IsExecEnd end self.old (leg_items leg.now)) }
+        ensures end { self.old.end ≡ None → IfErr result (λ end. IsExecEnd end self.old leg.now) }
         ensures kept { IfErr result (λ end. self.new.end ≡ Some end) }
         ensures again { (end : End) → self.old.end ≡ Some end → result ≡ Err end }
     {
@@ -99,8 +107,10 @@ impl Exec {
 
     /// Goes along the items, up to a check.
     fn step(&mut self, leg: &Leg) -> Result<Next, ExecEnd>
-        ensures next { IfOk result (λ next. IsNext next self.old self.new (leg_items leg.now)) }
-        ensures end { IfErr result (λ end. IsExecEnd end self.old (leg_items leg.now)) }
+        requires variables { All IsVariableType leg.now.vars }
+        requires sorted { AreSorted (pending self.old leg.now) }
+        ensures next { IfOk result (λ next. IsNext next self.old self.new leg.now) }
+        ensures end { IfErr result (λ end. IsExecEnd end self.old leg.now) }
         ensures same { self.new.end ≡ self.old.end }
     {
         let items = leg.items.as_slice();
@@ -110,7 +120,7 @@ impl Exec {
                 Item::Set(variable, claim) => self.set(*variable, claim)?,
                 Item::Check(kind, claim) => {
                     let item = number(self.at)?;
-                    let sequent = self.sequent(*kind, claim)?;
+                    let sequent = self.sequent(leg.vars.as_slice(), *kind, claim)?;
                     self.assume(*kind, claim)?;
                     return Ok(Next::Check {
                         item,
@@ -125,12 +135,12 @@ impl Exec {
 
     /// The term of a claim here, at an item of this kind.
     fn term(&self, kind: Kind, claim: &Claim) -> Result<Term, ExecEnd>
-        ensures term { IfOk result (λ term. term_tree term ≡ term_of (store_of self.now.terms) (claim_tree claim.now)) }
+        ensures term { IfOk result (λ term. tree term ≡ term_of (store_of self.now.terms) (claim_tree claim.now)) }
         ensures small { OnOk result (is_small (term_of (store_of self.now.terms) (claim_tree claim.now)) ≡ true) }
         ensures end { IfErr result (λ end. IsPast end self.now.at kind (term_of (store_of self.now.terms) (claim_tree claim.now))) }
     {
         let terms = self.terms.as_slice();
-        if measure_of(terms, claim).is_none() {
+        if !is_small(terms, claim) {
             let item = number(self.at)?;
             return Err(ExecEnd::Size { item, kind });
         }
@@ -142,7 +152,7 @@ impl Exec {
     fn assume(&mut self, kind: Kind, claim: &Claim) -> Result<(), ExecEnd>
         requires { self.old.at < 2 ^ 64 - 1 }
         ensures at { OnOk result (self.new.at ≡ self.old.at + 1) }
-        ensures facts { OnOk result (trees self.new.facts ≡ trees self.old.facts ++ term_of (store_of self.old.terms) (claim_tree claim.now) ∷ []) }
+        ensures facts { OnOk result (map tree self.new.facts ≡ map tree self.old.facts ++ term_of (store_of self.old.terms) (claim_tree claim.now) ∷ []) }
         ensures terms { OnOk result (self.new.terms ≡ self.old.terms) }
         ensures small { OnOk result (is_small (term_of (store_of self.old.terms) (claim_tree claim.now)) ≡ true) }
         ensures end { IfErr result (λ end. IsPast end self.old.at kind (term_of (store_of self.old.terms) (claim_tree claim.now))) }
@@ -171,14 +181,23 @@ impl Exec {
         Ok(())
     }
 
-    /// The facts so far, with a claim as the goal.
-    fn sequent(&self, kind: Kind, claim: &Claim) -> Result<Sequent, ExecEnd>
-        ensures sequent { IfOk result (λ sequent. sequent_tree sequent ≡ record { facts = trees self.now.facts; goal = term_of (store_of self.now.terms) (claim_tree claim.now) }) }
+    /// The facts so far, with a claim as the goal, over the symbols of these variables.
+    fn sequent(&self, variables: &[Ty], kind: Kind, claim: &Claim) -> Result<Sequent, ExecEnd>
+        requires variables { All IsVariableType variables.now }
+        requires sorted { is_small (term_of (store_of self.now.terms) (claim_tree claim.now)) ≡ true →
+            IsWellSorted (sequent variables.now (map tree self.now.facts) (term_of (store_of self.now.terms) (claim_tree claim.now))) }
+        ensures sequent { IfOk result (λ it. sequent_of it ≡ sequent variables.now (map tree self.now.facts) (term_of (store_of self.now.terms) (claim_tree claim.now))) }
         ensures end { IfErr result (λ end. IsPast end self.now.at kind (term_of (store_of self.now.terms) (claim_tree claim.now))) }
     {
         let goal = self.term(kind, claim)?;
-        let mut facts = Items::new(self.alloc);
-        add_copies(self.alloc, &mut facts, self.facts.as_slice())?;
-        Ok(Sequent { facts, goal })
+        let sorts = sorts_of(self.alloc, variables)?;
+        let facts = copies(self.alloc, self.facts.as_slice())?;
+        let records = Items::new(self.alloc);
+        Ok(Sequent {
+            sorts,
+            records,
+            facts,
+            goal,
+        })
     }
 }

@@ -1,7 +1,10 @@
 ghost use Rattle.std.specs.Prelude.{◌≡◌, length, map, IfOk};
+ghost use Rattle.std.specs.List.{All};
 ghost use Rattle.lk_ast.specs.LegTree.{leg_items};
 ghost use Rattle.lk_ast.specs.ProgramTree.{method_tree};
+ghost use Rattle.lk_ast.specs.WellTyped.{IsWellTypedMethod};
 ghost use Rattle.method_check.specs.Answers.{answer};
+ghost use Rattle.method_check.specs.TypedLegs.{IsTypedLeg};
 ghost use Rattle.method_check.specs.Verdicts.{located, verdict, verdict_of};
 
 use crate::leg_check::answer_leg;
@@ -65,7 +68,8 @@ pub fn method_verdict(legs: &Legs, answers: &[Answer]) -> Verdict
 
 /// The answers of legs, in order.
 fn answers_of(alloc: Global, legs: &[Leg]) -> Result<Items<Answer>, AllocError>
-    ensures { IfOk result (λ it. it ≡ map (λ leg. answer (leg_items leg)) legs.now) }
+    requires { All IsTypedLeg legs.now }
+    ensures { IfOk result (λ it. it ≡ map (λ leg. answer leg.vars (leg_items leg)) legs.now) }
 {
     let mut answers = Items::new(alloc);
     for leg in legs {
@@ -74,8 +78,9 @@ fn answers_of(alloc: Global, legs: &[Leg]) -> Result<Items<Answer>, AllocError>
     Ok(answers)
 }
 
-/// The verdict on a method.
+/// The verdict on a well-typed method.
 pub fn check_method(alloc: Global, method: &Method) -> Result<Verdict, AllocError>
+    requires { IsWellTypedMethod (method_tree method.now) }
     ensures { IfOk result (λ it. it ≡ verdict (method_tree method.now)) }
 {
     let legs = legs_of(alloc, method)?;

@@ -1,9 +1,9 @@
 -- What the grammar accounts for, the machine reads.
-use Rattle.std.proofs.Common.{◌≡◌, ℕ, suc, ◌<◌, ◌≤◌, List, [], ◌∷◌, ◌++◌, length, map, Option, Some, None, refl, sym, ap, ◌∙◌, append_assoc, append-nil, arith, cond}
+use Rattle.std.proofs.Common.{◌≡◌, ℕ, suc, ◌<◌, ◌≤◌, List, [], ◌∷◌, ◌++◌, length, map, Option, Some, None, pos, refl, sym, ap, ◌∙◌, append_assoc, append-nil, arith, cond}
 use Rattle.std.specs.List.{AllByRecursion}
 use Rattle.std.specs.Prelude.{option_and_then, option_to_list}
 use Rattle.std.specs.Option.{option_map}
-use Rattle.std.proofs.lemmas.Bool.{le-leb}
+use Rattle.std.proofs.lemmas.Bool.{le-leb, lt-ltb}
 use Rattle.lk_ast.specs.declared.tree.Place.{Place}
 use Rattle.lk_ast.specs.declared.tree.File.{File}
 use Rattle.lk_ast.specs.declared.tree.Name.{Name}
@@ -11,95 +11,119 @@ use Rattle.lk_ast.specs.declared.tree.Param.{Param}
 use Rattle.lk_ast.specs.declared.tree.Decl.{Decl}
 use Rattle.lk_ast.specs.declared.tree.Decl.TheVariants.{Method}
 use Rattle.lk_ast.specs.declared.tree.TypeName.{TypeName}
-use Rattle.lk_ast.specs.declared.tree.TypeName.TheVariants.{B, Unit as UnitType}
+use Rattle.lk_ast.specs.declared.tree.TypeName.TheVariants.{Z, B, Unit as UnitType}
 use Rattle.lk_ast.specs.declared.tree.Expr.{Expr}
 use Rattle.lk_ast.specs.declared.tree.Expr.TheVariants as e
 use Rattle.slang_lexer.specs.declared.token.TokenKind.{TokenKind}
 use Rattle.slang_lexer.specs.declared.token.TokenKind.TheVariants as kind
 use Rattle.slang_tokens.specs.Tok.{Tok, sign}
-use Rattle.slang_parser.specs.declared.operator.Operator.{Operator}
-use Rattle.slang_parser.specs.declared.operator.Operator.TheVariants.{Disjunction, Conjunction}
+use Rattle.slang_lexer.specs.Next.{value_of as number_value}
+use Rattle.slang_parser.specs.declared.operator.Side.TheVariants.{Left, Right}
+use Rattle.slang_parser.specs.declared.operator.Prefix.{Prefix}
+use Rattle.slang_parser.specs.declared.operator.Prefix.TheVariants as prefix
+use Rattle.slang_parser.specs.declared.operator.Infix.{Infix}
+use Rattle.slang_parser.specs.Operators.{infix_of, prefix_kind}
+use Rattle.slang_parser.proofs.Operators.{strength, strength-near, tight_strong, operand_pulls, operator_small, pull-small, comma_ends, paren_ends, newline_ends, brace_ends}
 use Rattle.slang_parser.specs.declared.body.PartWord.{PartWord}
 use Rattle.slang_parser.specs.declared.body.PartWord.TheVariants as words
 use Rattle.slang_parser.specs.declared.contract.ClauseWord.{ClauseWord}
 use Rattle.slang_parser.specs.declared.contract.ClauseWord.TheVariants.{Requiring, Ensuring}
-use Rattle.slang_parser.specs.Grammar.{operator_kind, operator_level, ExprText, truth, falsity, variable, result, bracketed, negation, binary, expr_tokens, level, IsGrouped, expr_tree, binary_tree, name_token, Listed, members, separated, optional, listed, ParamText, param_tokens, IsParam, param_tree, type_token, ClauseText, clause_tokens, IsClause, claim_trees, word_order, word_kind, ContractText, Ascends, IsContract, TypeText, type_tokens, type_tree, StmtText, val, assert, stmt_tokens, stmt_tree, PartText, contract_part, stmt_part, return_part, part_tokens, IsPart, part_word, part_order, order_behind, InOrder, BodyText, body_tokens, IsBody, MethodText, method_tokens, IsMethod, with_clause, with_clauses, with_part, with_parts, bare_method, decl_tree, file_tokens, InGrammar}
-use Rattle.slang_parser.specs.Below.{Below}
+use Rattle.slang_parser.specs.Grammar.{ExprText, truth, falsity, variable, result, number, bracketed, prefixed, binary, expr_tokens, IsGrouped, expr_tree, infix_tree, name_token, number_token, Listed, members, separated, optional, listed, ParamText, param_tokens, IsParam, param_tree, type_token, ClauseText, clause_tokens, IsClause, claim_trees, word_order, word_kind, ContractText, Ascends, IsContract, TypeText, type_tokens, type_tree, StmtText, val, assert, stmt_tokens, stmt_tree, PartText, contract_part, stmt_part, return_part, part_tokens, IsPart, part_word, part_order, order_behind, InOrder, BodyText, body_tokens, IsBody, MethodText, method_tokens, IsMethod, with_clause, with_clauses, with_part, with_parts, bare_method, decl_tree, file_tokens, InGrammar}
 use Rattle.slang_parser.proofs.Steps.{part_kind}
-use Rattle.slang_parser.proofs.Reading.{operator_level-small, close-Below}
-use Rattle.slang_parser.specs.Machine.{Around, alone, inside, negated, right_of, Grown, close, Claims, with_claim, Purpose, claim_of, value_of, assertion_of, return_of, State, want, have, claim_or_end, clause_end, run, with_claims, Draft, with_draft_stmt, top, ended, params_due, param_or_end, param_colon, param_type, param_end, result_colon, result_type, equals, part_or_end, part_end, part_due, val_type_or_equals, val_equals, clauses_due, clause_or_end, claims_due, next_whole, next_behind, next_operator, operator_of}
+use Rattle.slang_parser.proofs.Reading.{close-held}
+use Rattle.slang_parser.specs.Machine.{Around, alone, inside, under, right_of, held, pull, Grown, close, Claims, with_claim, Purpose, claim_of, value_of, assertion_of, return_of, State, want, have, claim_or_end, clause_end, run, with_claims, Draft, with_draft_stmt, top, ended, params_due, param_or_end, param_colon, param_type, param_end, result_colon, result_type, equals, part_or_end, part_end, part_due, val_type_or_equals, val_equals, clauses_due, clause_or_end, claims_due, next_leaf, next_whole, next_right, next_behind, next_operator, operator_of, on}
 
-Below-more : (around : Around) (m n : ℕ) → m ≤ n → Below around m → Below around n
-Below-more alone m n h b = tt
-Below-more (inside around) m n h b = tt
-Below-more (negated place around) m n h b = omega arith
-Below-more (right_of left operator around) m n h b = omega arith
-
--- the operand, read among what is open around it: the same as the whole expression for each operator that it holds together against
+-- the operand, read among what is open around it: the same as the whole expression for each operator that it pulls more strongly than
 record ReadAs (around : Around) (at : Purpose) (text : ExprText) : Type 0 where
   pub expr : Expr
   pub left : Around
   pub reads : (rest : List Tok) → run (want around at) (expr_tokens text ++ rest) ≡ run (have expr left at) rest
-  pub closes : (least : ℕ) → least ≤ level text → close least expr left ≡ close least (expr_tree text) around
+  pub closes : (least : ℕ) → least < strength Right text → close least expr left ≡ close least (expr_tree text) around
 
--- an operator closes what binds as tightly
-after_operator : (operator : Operator) (place : Place) (expr : Expr) (around : Around) (at : Purpose) (grown : Grown) (rest : List Tok)
-    → close (operator_level operator) expr around ≡ grown
-    → run (have expr around at) (sign (operator_kind operator) place ∷ rest) ≡ run (want (right_of grown.expr operator grown.around) at) rest
-after_operator Disjunction place expr around at grown rest h = ap (λ (g : Grown). run (want (right_of g.expr Disjunction g.around) at) rest) h
-after_operator Conjunction place expr around at grown rest h = ap (λ (g : Grown). run (want (right_of g.expr Conjunction g.around) at) rest) h
+-- an operator takes what has grown
+after_operator : (row : Infix) (place : Place) (expr left : Expr) (inner around : Around) (at : Purpose) (rest : List Tok)
+    → infix_of row.sign ≡ Some row → held around < pull Left row
+    → close (pull Left row) expr inner ≡ record { expr = left; around = around }
+    → run (have expr inner at) (sign row.sign place ∷ rest) ≡ run (want (right_of left row around) at) rest
+after_operator row place expr left inner around at rest is_row h closed =
+    ap (λ o. option_and_then (λ s. run s rest) (next_operator expr inner at (sign row.sign place) o)) is_row
+    ∙ ap (λ (g : Grown). option_and_then (λ s. run s rest) (next_right g at row)) closed
+    ∙ ap (λ t. option_and_then (λ s. run s rest) (on t (want (right_of left row around) at))) (lt-ltb (held around) (pull Left row) h)
 
 -- a bracket closes what is inside
 after_bracket : (place : Place) (expr inner : Expr) (left around : Around) (at : Purpose) (rest : List Tok) → close 0 expr left ≡ record { expr = inner; around = inside around }
     → run (have expr left at) (sign kind.RightParen place ∷ rest) ≡ run (have inner around at) rest
-after_bracket place expr inner left around at rest h = ap (λ (g : Grown). option_and_then (λ s. run s rest) (next_behind g.expr g.around at (sign kind.RightParen place))) h
+after_bracket place expr inner left around at rest h =
+    ap (λ o. option_and_then (λ s. run s rest) (next_operator expr left at (sign kind.RightParen place) o)) (paren_ends place)
+    ∙ ap (λ (g : Grown). option_and_then (λ s. run s rest) (next_behind g.expr g.around at (sign kind.RightParen place))) h
 
-read_expr : (text : ExprText) (around : Around) (at : Purpose) → IsGrouped text → Below around (level text) → ReadAs around at text
+want_under : (by : Prefix) (place : Place) (around : Around) (at : Purpose) (rest : List Tok) → run (want around at) (sign (prefix_kind by) place ∷ rest) ≡ run (want (under by place around) at) rest
+want_under prefix.Not place around at rest = refl
+want_under prefix.Minus place around at rest = refl
+
+read_expr : (text : ExprText) (around : Around) (at : Purpose) → IsGrouped text → held around < strength Left text → ReadAs around at text
 read_expr (truth place) around at g b = record { expr = e.True place; left = around; reads = λ rest. refl; closes = λ least h. refl }
 read_expr (falsity place) around at g b = record { expr = e.False place; left = around; reads = λ rest. refl; closes = λ least h. refl }
 read_expr (variable n) around at g b = record {
   expr = e.Name n;
   left = around;
-  reads = λ rest. ap (λ b. option_and_then (λ state. run state rest) (cond b (Some (have (e.Name n) around at)) None)) g;
+  reads = λ rest. ap (λ b. option_and_then (λ state. run state rest) (next_leaf around at (name_token n) (cond b (Some (e.Name n)) None))) g;
   closes = λ least h. refl;
 }
 read_expr (result place) around at g b = record { expr = e.Res place; left = around; reads = λ rest. refl; closes = λ least h. refl }
+read_expr (number digits place) around at g b = record {
+  expr = e.Number place (pos (number_value digits));
+  left = around;
+  reads = λ rest. ap (λ b. option_and_then (λ state. run state rest) (next_leaf around at (number_token digits place) (cond b (Some (e.Number place (pos (number_value digits)))) None))) g;
+  closes = λ least h. refl;
+}
 read_expr (bracketed place inner end) around at g b =
-    let within = read_expr inner (inside around) at g tt in
+    let near = strength-near Left Right inner in
+    let within = read_expr inner (inside around) at g near.0 in
     record {
       expr = expr_tree inner;
       left = around;
       reads = λ rest. ap (run (want (inside around) at)) (append_assoc (expr_tokens inner) (sign kind.RightParen end ∷ []) rest)
           ∙ within.reads (sign kind.RightParen end ∷ rest)
-          ∙ after_bracket end within.expr (expr_tree inner) within.left around at rest (within.closes 0 (omega arith));
+          ∙ after_bracket end within.expr (expr_tree inner) within.left around at rest (within.closes 0 (strength-near Right Left inner).0);
       closes = λ least h. refl;
     }
-read_expr (negation place operand) around at g b =
-    let inner = read_expr operand (negated place around) at g.1 g.0 in
-    record { expr = inner.expr; left = inner.left; reads = inner.reads; closes = λ least h. inner.closes least (omega arith) }
-read_expr (binary left operator place right) around at g b =
-    let first = read_expr left around at g.2 (Below-more around (operator_level operator) (level left) g.0 b) in
-    let second = read_expr right (right_of (expr_tree left) operator around) at g.3 g.1 in
+read_expr (prefixed by place operand) around at g b =
+    let inner = read_expr operand (under by place around) at g.1 (tight_strong Left operand g.1 g.0) in
+    record {
+      expr = inner.expr;
+      left = inner.left;
+      reads = λ rest. want_under by place around at (expr_tokens operand ++ rest) ∙ inner.reads rest;
+      closes = λ least h. let strong = tight_strong Right operand g.1 g.0 in inner.closes least (omega arith);
+    }
+read_expr (binary left row place right) around at g b =
+    let small = operator_small row.sign row g.0 in
+    let on_left = operand_pulls Left row left small g.1 in
+    let on_right = operand_pulls Right row right small g.2 in
+    let left_near = strength-near Right Left left in
+    let right_near = strength-near Left Right right in
+    let first = read_expr left around at g.3 (omega (arith, on_left, left_near.1)) in
+    let second = read_expr right (right_of (expr_tree left) row around) at g.4 on_right in
     record {
       expr = second.expr;
       left = second.left;
       reads = λ rest. ap (run (want around at)) (append_assoc (expr_tokens left) _ rest)
-          ∙ first.reads (sign (operator_kind operator) place ∷ expr_tokens right ++ rest)
-          ∙ after_operator operator place first.expr first.left at (record { expr = expr_tree left; around = around }) (expr_tokens right ++ rest)
-          (first.closes (operator_level operator) g.0 ∙ close-Below around (operator_level operator) (expr_tree left) (operator_level-small operator) b)
+          ∙ first.reads (sign row.sign place ∷ expr_tokens right ++ rest)
+          ∙ after_operator row place first.expr (expr_tree left) first.left around at (expr_tokens right ++ rest) g.0 b
+          (first.closes (pull Left row) on_left ∙ close-held around (pull Left row) (expr_tree left) (pull-small Left row small).1 (omega arith))
           ∙ second.reads rest;
-      closes = λ least h. second.closes least (omega (arith, g.1))
-          ∙ ap (λ x. cond x (close least (binary_tree operator (expr_tree left) (expr_tree right)) around) (record { expr = expr_tree right; around = right_of (expr_tree left) operator around })) (le-leb least (operator_level operator) h);
+      closes = λ least h. second.closes least (omega (arith, on_right, right_near.1))
+          ∙ ap (λ x. cond x (close least (infix_tree row.operator (expr_tree left) (expr_tree right)) around) (record { expr = expr_tree right; around = right_of (expr_tree left) row around })) (lt-ltb least (pull Right row) h);
     }
 
 -- a whole expression, and the token behind it
 read_whole : (text : ExprText) (at : Purpose) (token : Tok) (rest : List Tok) → IsGrouped text → operator_of token ≡ None
     → run (want alone at) (expr_tokens text ++ token ∷ rest) ≡ option_and_then (λ s. run s rest) (next_whole (expr_tree text) at token)
 read_whole text at token rest g none =
-    let read = read_expr text alone at g tt in
+    let read = read_expr text alone at g (strength-near Left Right text).0 in
     read.reads (token ∷ rest)
     ∙ ap (λ o. option_and_then (λ s. run s rest) (next_operator read.expr read.left at token o)) none
-    ∙ ap (λ (g : Grown). option_and_then (λ s. run s rest) (next_behind g.expr g.around at token)) (read.closes 0 (omega arith))
+    ∙ ap (λ (g : Grown). option_and_then (λ s. run s rest) (next_behind g.expr g.around at token)) (read.closes 0 (strength-near Right Left text).0)
 
 -- Lists.
 
@@ -137,19 +161,21 @@ starts_claim (truth place) at rest = refl
 starts_claim (falsity place) at rest = refl
 starts_claim (variable n) at rest = refl
 starts_claim (result place) at rest = refl
+starts_claim (number digits place) at rest = refl
 starts_claim (bracketed left inner right) at rest = refl
-starts_claim (negation place operand) at rest = refl
-starts_claim (binary left operator place right) at rest =
-    let e = append_assoc (expr_tokens left) (sign (operator_kind operator) place ∷ expr_tokens right) rest in
+starts_claim (prefixed prefix.Not place operand) at rest = refl
+starts_claim (prefixed prefix.Minus place operand) at rest = refl
+starts_claim (binary left row place right) at rest =
+    let e = append_assoc (expr_tokens left) (sign row.sign place ∷ expr_tokens right) rest in
     ap (run (claim_or_end at)) e ∙ starts_claim left at _ ∙ sym (ap (run (want alone (claim_of at))) e)
 
 claim_comma : (text : ExprText) (at : Claims) (place : Place) (rest : List Tok) → IsGrouped text
     → run (want alone (claim_of at)) (expr_tokens text ++ sign kind.Comma place ∷ rest) ≡ run (claim_or_end (with_claim at (expr_tree text))) rest
-claim_comma text at place rest g = read_whole text (claim_of at) (sign kind.Comma place) rest g refl
+claim_comma text at place rest g = read_whole text (claim_of at) (sign kind.Comma place) rest g (comma_ends place)
 
 claim_last : (text : ExprText) (at : Claims) (place : Place) (rest : List Tok) → IsGrouped text
     → run (want alone (claim_of at)) (expr_tokens text ++ sign kind.RightParen place ∷ rest) ≡ run (clause_end (with_claims (with_claim at (expr_tree text))) (suc (word_order at.word))) rest
-claim_last text at place rest g = read_whole text (claim_of at) (sign kind.RightParen place) rest g refl
+claim_last text at place rest g = read_whole text (claim_of at) (sign kind.RightParen place) rest g (paren_ends place)
 
 abbrev add_claim : Claims → ExprText → Claims
 add_claim at text = with_claim at (expr_tree text)
@@ -258,6 +284,7 @@ read_optional_type : (draft : Draft) (place : Place) (name : Name) (ty : Option 
 read_optional_type draft place name None end rest = refl
 read_optional_type draft place name (Some ty) end rest = by_type ty.ty where
   by_type : (t : TypeName) → run (val_type_or_equals draft place name) (sign kind.Colon ty.colon ∷ type_token t ∷ sign kind.Equals end ∷ rest) ≡ run (val_equals draft place name (Some t)) (sign kind.Equals end ∷ rest)
+  by_type (Z p) = refl
   by_type (B p) = refl
   by_type (UnitType p) = refl
 
@@ -281,7 +308,7 @@ read_stmt at (val place name ty end value) token rest fits none =
 read_stmt at (assert place left claim right) token rest fits none =
     starts_part words.Assert at.draft at.least place (sign kind.LeftParen left ∷ (expr_tokens claim ++ sign kind.RightParen right ∷ []) ++ token ∷ rest) fits.0
     ∙ ap (run (want alone (assertion_of at.draft place))) (append_assoc (expr_tokens claim) (sign kind.RightParen right ∷ []) (token ∷ rest))
-    ∙ read_whole claim (assertion_of at.draft place) (sign kind.RightParen right) (token ∷ rest) fits.1 refl
+    ∙ read_whole claim (assertion_of at.draft place) (sign kind.RightParen right) (token ∷ rest) fits.1 (paren_ends right)
 
 read_part : (at : SoFar) (part : PartText) (token : Tok) (rest : List Tok) → FitsPart at part → operator_of token ≡ None
     → run (part_or_end at.draft at.least) (part_tokens part ++ token ∷ rest) ≡ run (part_end (add_part at part).draft (add_part at part).least) (token ∷ rest)
@@ -304,8 +331,8 @@ read_body : (draft : Draft) (body : BodyText) (place : Place) (rest : List Tok) 
     → run (part_or_end draft 0) (body_tokens body ++ sign kind.RightBrace place ∷ rest) ≡ run (ended (draft.done ++ Method (with_parts draft.method (members body)) ∷ [])) rest
 read_body draft body place rest well =
     read_front kind.Newline part_tokens (λ at. part_or_end at.draft at.least) add_part FitsPart (sign kind.RightBrace place ∷ rest) (λ at. run (ended (at.draft.done ++ Method at.draft.method ∷ [])) rest)
-    (λ a m p r fits. read_part a m (sign kind.Newline p) r fits refl)
-    (λ a m fits. read_part a m (sign kind.RightBrace place) rest fits refl)
+    (λ a m p r fits. read_part a m (sign kind.Newline p) r fits (newline_ends p))
+    (λ a m fits. read_part a m (sign kind.RightBrace place) rest fits (brace_ends place))
     (λ a. refl)
     body.front body.last (record { draft = draft; least = 0 }) (all_parts (members body) _ well.0 well.1)
     ∙ ap (λ (d : Draft). run (ended (d.done ++ Method d.method ∷ [])) rest) (gathered_parts (members body) (record { draft = draft; least = 0 }))
@@ -320,6 +347,7 @@ FitsParam params param = IsParam param
 
 read_type_of_param : (done : List Decl) (name : Name) (params : List Param) (param : Name) (ty : TypeName) (rest : List Tok)
     → run (param_type done name params param) (type_token ty ∷ rest) ≡ run (param_end done name (params ++ record { name = param; ty = ty } ∷ [])) rest
+read_type_of_param done name params param (Z place) rest = refl
 read_type_of_param done name params param (B place) rest = refl
 read_type_of_param done name params param (UnitType place) rest = refl
 
@@ -349,6 +377,7 @@ read_params done name list place rest all =
 
 read_result_type : (done : List Decl) (name : Name) (params : List Param) (ty : TypeName) (rest : List Tok)
     → run (result_type done name params) (type_token ty ∷ rest) ≡ run (equals (record { done = done; method = bare_method name params ty })) rest
+read_result_type done name params (Z place) rest = refl
 read_result_type done name params (B place) rest = refl
 read_result_type done name params (UnitType place) rest = refl
 

@@ -13,13 +13,17 @@ use Rattle.lk_ast.specs.declared.tree.TypeName.{TypeName}
 use Rattle.lk_ast.specs.declared.tree.Expr.{Expr}
 use Rattle.slang_lexer.specs.declared.token.TokenKind.TheVariants as kind
 use Rattle.slang_tokens.specs.Tok.{Tok, sign}
-use Rattle.slang_parser.specs.declared.operator.Operator.{Operator}
+use Rattle.slang_parser.specs.declared.operator.Side.TheVariants.{Left as TheLeft, Right as TheRight}
+use Rattle.slang_parser.specs.declared.operator.Prefix.{Prefix}
+use Rattle.slang_parser.specs.declared.operator.Infix.{Infix}
+use Rattle.slang_parser.specs.Operators.{infix_of, prefix_kind}
 use Rattle.slang_parser.specs.declared.contract.ClauseWord.{ClauseWord}
 use Rattle.slang_parser.specs.declared.body.PartWord.{PartWord}
 use Rattle.slang_parser.specs.declared.body.PartWord.TheVariants as words
-use Rattle.slang_parser.specs.Grammar.{operator_kind, operator_level, ExprText, expr_tokens, level, IsGrouped, expr_tree, IsPlain, name_token, Listed, members, optional, listed, ParamText, param_tokens, IsParam, param_tree, type_token, ClauseText, clause_tokens, IsClause, word_order, Ascends, TypeText, type_tokens, type_tree, PartText, part_tokens, IsPart, part_word, order_behind, InOrder, BodyText, body_tokens, IsMethod, with_clause, with_clauses, with_part, with_parts, bare_method, decl_tree, FileText, file_tokens}
-use Rattle.slang_parser.specs.Machine.{Around, alone, inside, negated, right_of, Claims, with_claim, with_claims, Draft, with_draft_stmt, with_draft_return, Purpose, claim_of, value_of, assertion_of, return_of, State, top, ended, naming, params_due, param_or_end, param_colon, param_type, param_end, result_colon, result_type, equals, begin, part_or_end, part_end, val_name, val_type_or_equals, val_type, val_equals, assert_due, clauses_due, clause_or_end, claims_due, want, have, claim_or_end, clause_end, run}
+use Rattle.slang_parser.specs.Grammar.{ExprText, expr_tokens, IsOperand, IsGrouped, expr_tree, IsPlain, name_token, Listed, members, optional, listed, ParamText, param_tokens, IsParam, param_tree, type_token, ClauseText, clause_tokens, IsClause, word_order, Ascends, TypeText, type_tokens, type_tree, PartText, part_tokens, IsPart, part_word, order_behind, InOrder, BodyText, body_tokens, IsMethod, with_clause, with_clauses, with_part, with_parts, bare_method, decl_tree, FileText, file_tokens}
+use Rattle.slang_parser.specs.Machine.{Around, alone, inside, under, right_of, held, pull, Claims, with_claim, with_claims, Draft, with_draft_stmt, with_draft_return, Purpose, claim_of, value_of, assertion_of, return_of, State, top, ended, naming, params_due, param_or_end, param_colon, param_type, param_end, result_colon, result_type, equals, begin, part_or_end, part_end, val_name, val_type_or_equals, val_type, val_equals, assert_due, clauses_due, clause_or_end, claims_due, want, have, claim_or_end, clause_end, run}
 use Rattle.slang_parser.proofs.Steps.{Then, part_kind}
+use Rattle.slang_parser.proofs.Operators.{strength}
 
 pub record LeftTop (done : List Decl) (file : File) (tokens : List Tok) : Type 0 where
   pub text : FileText
@@ -80,34 +84,32 @@ LeftWhole expr (return_of draft place) file tokens = LeftPartEnd (with_draft_ret
 pub data AroundText : Type 0 where
   alone_text : AroundText
   inside_text : Place → AroundText → AroundText
-  negated_text : Place → AroundText → AroundText
-  right_text : ExprText → Operator → Place → AroundText → AroundText
+  under_text : Prefix → Place → AroundText → AroundText
+  right_text : ExprText → Infix → Place → AroundText → AroundText
 
 abbrev pub around_tokens : AroundText → List Tok
 around_tokens alone_text = []
 around_tokens (inside_text place around) = around_tokens around ++ sign kind.LeftParen place ∷ []
-around_tokens (negated_text place around) = around_tokens around ++ sign kind.Bang place ∷ []
-around_tokens (right_text left operator place around) = around_tokens around ++ (expr_tokens left ++ sign (operator_kind operator) place ∷ [])
+around_tokens (under_text by place around) = around_tokens around ++ sign (prefix_kind by) place ∷ []
+around_tokens (right_text left row place around) = around_tokens around ++ (expr_tokens left ++ sign row.sign place ∷ [])
 
 abbrev pub around_tree : AroundText → Around
 around_tree alone_text = alone
 around_tree (inside_text place around) = inside (around_tree around)
-around_tree (negated_text place around) = negated place (around_tree around)
-around_tree (right_text left operator place around) = right_of (expr_tree left) operator (around_tree around)
+around_tree (under_text by place around) = under by place (around_tree around)
+around_tree (right_text left row place around) = right_of (expr_tree left) row (around_tree around)
 
--- an operand that holds together this tightly may stand there
+-- an operand that pulls this strongly may stand there
 abbrev pub Allows : AroundText → ℕ → Type 0
-Allows alone_text n = Unit {0}
-Allows (inside_text place around) n = Unit {0}
-Allows (negated_text place around) n = 9 ≤ n
-Allows (right_text left operator place around) n = operator_level operator < n
+Allows text n = held (around_tree text) < n
 
 -- all that is open is grouped
 abbrev pub IsOpen : AroundText → Type 0
 IsOpen alone_text = Unit {0}
 IsOpen (inside_text place around) = IsOpen around
-IsOpen (negated_text place around) = IsOpen around × Allows around 9
-IsOpen (right_text left operator place around) = IsOpen around × (operator_level operator ≤ level left) × IsGrouped left × Allows around (operator_level operator)
+IsOpen (under_text by place around) = IsOpen around × Allows around 20
+IsOpen (right_text left row place around) =
+    IsOpen around × (infix_of row.sign ≡ Some row) × IsOperand TheLeft row left × IsGrouped left × Allows around (pull TheLeft row)
 
 -- The expression that these tokens end: they are the rest of it, and what follows it.
 pub record EndsExpr (read : List Tok) (at : Purpose) (file : File) (tokens : List Tok) : Type 0 where
@@ -124,7 +126,7 @@ LeftWant around at file tokens = (text : AroundText) → around_tree text ≡ ar
 
 abbrev pub LeftHave : Expr → Around → Purpose → File → List Tok → Type 0
 LeftHave expr around at file tokens = (text : AroundText) (operand : ExprText) → around_tree text ≡ around → expr_tree operand ≡ expr
-    → IsOpen text → IsGrouped operand → 9 ≤ level operand → EndsExpr (around_tokens text ++ expr_tokens operand) at file tokens
+    → IsOpen text → IsGrouped operand → 20 ≤ strength TheLeft operand → 20 ≤ strength TheRight operand → EndsExpr (around_tokens text ++ expr_tokens operand) at file tokens
 
 pub record LeftClaimsDue (draft : Draft) (word : ClauseWord) (file : File) (tokens : List Tok) : Type 0 where
   pub left : Place

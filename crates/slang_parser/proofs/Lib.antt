@@ -1,5 +1,6 @@
 pub mod Complete
 pub mod Steps
+pub mod Operators
 pub mod Left
 pub mod Expressions
 pub mod Clauses

@@ -7,7 +7,7 @@ use Rattle.lk_ast.specs.declared.tree.Name.{Name}
 use Rattle.lk_ast.specs.declared.tree.Param.{Param}
 use Rattle.lk_ast.specs.declared.tree.Decl.{Decl}
 use Rattle.lk_ast.specs.declared.tree.TypeName.{TypeName}
-use Rattle.lk_ast.specs.declared.tree.TypeName.TheVariants.{B, Unit as UnitType}
+use Rattle.lk_ast.specs.declared.tree.TypeName.TheVariants.{Z, B, Unit as UnitType}
 use Rattle.slang_lexer.specs.declared.token.TokenKind.TheVariants as kind
 use Rattle.slang_tokens.specs.Tok.{Tok, sign}
 use Rattle.slang_tokens.proofs.Bare.{IsBare}
@@ -21,7 +21,7 @@ use Rattle.slang_parser.proofs.Left.{LeftTop, LeftEnded, LeftPartOrEnd, ThenType
 pub left_type : (Follows : TypeName → List Tok → Type 0) (State_of : TypeName → State) (token : Tok) (tokens : List Tok) (file : File) → IsBare token
     → ((ty : TypeName) → run (State_of ty) tokens ≡ Some file → Follows ty tokens)
     → option_and_then (λ s. run s tokens) (option_map State_of (type_of token)) ≡ Some file → ThenType Follows (token ∷ tokens)
-left_type Follows state_of token tokens file bare onward h = by_b (is kind.TypeB token) refl h where
+left_type Follows state_of token tokens file bare onward h = by_z (is kind.TypeZ token) refl h where
   by_unit : (c : Bool) → is kind.TypeUnit token ≡ c → option_and_then (λ s. run s tokens) (option_map state_of (cond c (Some (UnitType token.place)) None)) ≡ Some file → ThenType Follows (token ∷ tokens)
   by_unit true e r = record { ty = UnitType token.place; rest = tokens; is_there = ap (λ t. t ∷ tokens) (is_sign kind.TypeUnit token refl refl bare e); follows = onward (UnitType token.place) r }
   by_unit false e r = absurd (cc)
@@ -29,6 +29,11 @@ left_type Follows state_of token tokens file bare onward h = by_b (is kind.TypeB
   by_b : (b : Bool) → is kind.TypeB token ≡ b → option_and_then (λ s. run s tokens) (option_map state_of (cond b (Some (B token.place)) (on (is kind.TypeUnit token) (UnitType token.place)))) ≡ Some file → ThenType Follows (token ∷ tokens)
   by_b true e r = record { ty = B token.place; rest = tokens; is_there = ap (λ t. t ∷ tokens) (is_sign kind.TypeB token refl refl bare e); follows = onward (B token.place) r }
   by_b false e r = by_unit (is kind.TypeUnit token) refl r
+
+  by_z : (b : Bool) → is kind.TypeZ token ≡ b
+      → option_and_then (λ s. run s tokens) (option_map state_of (cond b (Some (Z token.place)) (cond (is kind.TypeB token) (Some (B token.place)) (on (is kind.TypeUnit token) (UnitType token.place))))) ≡ Some file → ThenType Follows (token ∷ tokens)
+  by_z true e r = record { ty = Z token.place; rest = tokens; is_there = ap (λ t. t ∷ tokens) (is_sign kind.TypeZ token refl refl bare e); follows = onward (Z token.place) r }
+  by_z false e r = by_b (is kind.TypeB token) refl r
 
 pub left_param_or_end : (done : List Decl) (name : Name) (params : List Param) (token : Tok) (tokens : List Tok) (file : File) → IsBare token → Onward file tokens
     → run (param_or_end done name params) (token ∷ tokens) ≡ Some file → LeftParamOrEnd done name params file (token ∷ tokens)

@@ -46,7 +46,7 @@ claim_turn_on at token tokens = by_comma (is kind.Comma token) where
   by_comma false = by_paren (is kind.RightParen token)
 
 -- behind a claim
-pub claim_turn : (claim : Expr) (at : Claims) (tokens : List Tok) → StopsBefore 1 tokens
+pub claim_turn : (claim : Expr) (at : Claims) (tokens : List Tok) → StopsBefore 0 tokens
     → run (have claim alone (claim_of at)) tokens ≡ turned (want alone (claim_of (with_claim at claim))) (clause_over (with_claim at claim)) (member_end kind.Comma kind.RightParen tokens)
 claim_turn claim at [] h = refl
 claim_turn claim at (token ∷ tokens) h =

@@ -1,6 +1,6 @@
 -- The grammar: which lists of tokens are a text, and with which tree. A text is accounted for part by part, with the
 -- place of each token, and an account says both how its part is spelled and which tree it has.
-use Rattle.std.specs.Prelude.{◌≡◌, ℕ, suc, ◌<◌, ◌≤◌, Bool, not, List, [], ◌∷◌, ◌++◌, length, map, Option, Some, None, option_to_list, IsTrue, codes}
+use Rattle.std.specs.Prelude.{◌≡◌, ℕ, suc, ◌<◌, ◌≤◌, ◌^◌, ◌⊎◌, Bool, not, ◌&&◌, nat_lt, pos, List, [], ◌∷◌, ◌++◌, length, map, Option, Some, None, option_to_list, IsTrue, codes}
 use Rattle.std.specs.List.{AllByRecursion}
 use Rattle.std.specs.Option.{option_map}
 use Rattle.std.specs.Str.{bytes_eq, IsUtf8}
@@ -15,14 +15,21 @@ use Rattle.lk_ast.specs.declared.tree.Stmt.{Stmt}
 use Rattle.lk_ast.specs.declared.tree.Stmt.TheVariants as statement
 use Rattle.lk_ast.specs.declared.tree.Return.{Return}
 use Rattle.lk_ast.specs.declared.tree.TypeName.{TypeName}
-use Rattle.lk_ast.specs.declared.tree.TypeName.TheVariants.{B, Unit as UnitType}
+use Rattle.lk_ast.specs.declared.tree.TypeName.TheVariants.{Z, B, Unit as UnitType}
+use Rattle.lk_ast.specs.declared.tree.Operator.{Operator}
 use Rattle.lk_ast.specs.declared.tree.Expr.{Expr, out-Expr}
 use Rattle.lk_ast.specs.declared.tree.Expr.TheVariants as e
 use Rattle.lk_ast.specs.declared.tree.Expr.TheOpen as layer
 use Rattle.slang_lexer.specs.declared.token.TokenKind.{TokenKind}
 use Rattle.slang_lexer.specs.declared.token.TokenKind.TheVariants as kind
-use Rattle.slang_parser.specs.declared.operator.Operator.{Operator}
-use Rattle.slang_parser.specs.declared.operator.Operator.TheVariants.{Disjunction, Conjunction}
+use Rattle.slang_lexer.specs.Spelling.{is_number}
+use Rattle.slang_lexer.specs.Next.{value_of as number_value}
+use Rattle.slang_parser.specs.declared.operator.Side.{Side}
+use Rattle.slang_parser.specs.declared.operator.Side.TheVariants.{Left, Right}
+use Rattle.slang_parser.specs.declared.operator.Prefix.{Prefix}
+use Rattle.slang_parser.specs.declared.operator.Prefix.TheVariants as prefix
+use Rattle.slang_parser.specs.declared.operator.Infix.{Infix}
+use Rattle.slang_parser.specs.Operators.{infix_of, prefix_kind, prefix_level}
 use Rattle.slang_parser.specs.declared.body.PartWord.{PartWord}
 use Rattle.slang_parser.specs.declared.body.PartWord.TheVariants as words
 use Rattle.slang_parser.specs.declared.contract.ClauseWord.{ClauseWord}
@@ -65,34 +72,36 @@ name_token name = record { kind = kind.Name; text = name.text; place = name.plac
 abbrev pub IsPlain : Name → Type 0
 IsPlain name = IsTrue (is_plain name.text)
 
+-- Numbers.
+
+-- decimal digits whose value has at most 127 bits
+abbrev pub is_numeral : List ℕ → Bool
+is_numeral digits = is_number digits && nat_lt (number_value digits) (2 ^ 127)
+
+abbrev pub number_token : List ℕ → Place → Tok
+number_token digits place = record { kind = kind.Number; text = digits; place = place }
+
 -- Expressions.
-
-abbrev pub operator_kind : Operator → TokenKind
-operator_kind Disjunction = kind.Bar
-operator_kind Conjunction = kind.Ampersand
-
--- how tightly it binds, from 1 on. All join to the left.
-abbrev pub operator_level : Operator → ℕ
-operator_level Disjunction = 2
-operator_level Conjunction = 3
 
 pub data ExprText : Type 0 where
   truth : Place → ExprText
   falsity : Place → ExprText
   variable : Name → ExprText
   result : Place → ExprText
+  number : (digits : List ℕ) → Place → ExprText
   bracketed : Place → ExprText → Place → ExprText
-  negation : Place → ExprText → ExprText
-  binary : ExprText → Operator → Place → ExprText → ExprText
+  prefixed : Prefix → Place → ExprText → ExprText
+  binary : ExprText → Infix → Place → ExprText → ExprText
 
 abbrev pub expr_tokens : ExprText → List Tok
 expr_tokens (truth place) = sign kind.True place ∷ []
 expr_tokens (falsity place) = sign kind.False place ∷ []
 expr_tokens (variable n) = name_token n ∷ []
 expr_tokens (result place) = sign kind.Res place ∷ []
+expr_tokens (number digits place) = number_token digits place ∷ []
 expr_tokens (bracketed left inner right) = sign kind.LeftParen left ∷ expr_tokens inner ++ sign kind.RightParen right ∷ []
-expr_tokens (negation place operand) = sign kind.Bang place ∷ expr_tokens operand
-expr_tokens (binary left operator place right) = expr_tokens left ++ sign (operator_kind operator) place ∷ expr_tokens right
+expr_tokens (prefixed by place operand) = sign (prefix_kind by) place ∷ expr_tokens operand
+expr_tokens (binary left row place right) = expr_tokens left ++ sign row.sign place ∷ expr_tokens right
 
 -- how tightly an expression holds together: a prefix binds tighter than each operator between two operands, and brackets
 -- hold together what is inside
@@ -101,21 +110,33 @@ level (truth place) = 10
 level (falsity place) = 10
 level (variable n) = 10
 level (result place) = 10
+level (number digits place) = 10
 level (bracketed left inner right) = 10
-level (negation place operand) = 9
-level (binary left operator place right) = operator_level operator
+level (prefixed by place operand) = prefix_level
+level (binary left row place right) = row.level
 
--- operands are grouped as the operators bind: `a & b & c` is `(a & b) & c`, `a | b & c` is `a | (b & c)`, and `!a & b` is
--- `(!a) & b`
+-- the side to which a chain of its level joins
+abbrev pub joins : ExprText → Option Side
+joins (binary left row place right) = Some row.joins
+joins _ = None
+
+-- An operand on a side of an operator binds more tightly than it, or is a chain of its level where both join to that side.
+-- So where two operators of one level join to two sides, neither can take the other as an operand.
+abbrev pub IsOperand : Side → Infix → ExprText → Type 0
+IsOperand side row operand = (row.level < level operand) ⊎ ((level operand ≡ row.level) × (row.joins ≡ side) × (joins operand ≡ Some side))
+
+-- Each operator stands in the table, and has the operands that it binds: `a & b & c` is `(a & b) & c`, `a ->: b ->: c` is
+-- `a ->: (b ->: c)`, `a | b & c` is `a | (b & c)`, `-a + b` is `(-a) + b`, and `a + b ->: c` is nothing.
 abbrev pub IsGrouped : ExprText → Type 0
 IsGrouped (truth place) = Unit {0}
 IsGrouped (falsity place) = Unit {0}
 IsGrouped (variable n) = IsPlain n
 IsGrouped (result place) = Unit {0}
+IsGrouped (number digits place) = IsTrue (is_numeral digits)
 IsGrouped (bracketed left inner right) = IsGrouped inner
-IsGrouped (negation place operand) = (9 ≤ level operand) × IsGrouped operand
-IsGrouped (binary left operator place right) =
-    (operator_level operator ≤ level left) × (operator_level operator < level right) × IsGrouped left × IsGrouped right
+IsGrouped (prefixed by place operand) = (prefix_level ≤ level operand) × IsGrouped operand
+IsGrouped (binary left row place right) =
+    (infix_of row.sign ≡ Some row) × IsOperand Left row left × IsOperand Right row right × IsGrouped left × IsGrouped right
 
 -- the place of an expression: that of the left operand where there are two, else that of its first token
 abbrev pub place_within : layer.Expr-F Expr → Place
@@ -123,16 +144,20 @@ place_within (layer.True place) = place
 place_within (layer.False place) = place
 place_within (layer.Name n) = n.place
 place_within (layer.Res place) = place
+place_within (layer.Number place value) = place
 place_within (layer.Not place operand) = place
-place_within (layer.And place left right) = place
-place_within (layer.Or place left right) = place
+place_within (layer.Minus place operand) = place
+place_within (layer.Binary place operator left right) = place
 
 abbrev pub expr_place : Expr → Place
 expr_place expr = place_within (out-Expr expr)
 
-abbrev pub binary_tree : Operator → Expr → Expr → Expr
-binary_tree Disjunction left right = e.Or (expr_place left) left right
-binary_tree Conjunction left right = e.And (expr_place left) left right
+abbrev pub infix_tree : Operator → Expr → Expr → Expr
+infix_tree operator left right = e.Binary (expr_place left) operator left right
+
+abbrev pub prefix_tree : Prefix → Place → Expr → Expr
+prefix_tree prefix.Not place operand = e.Not place operand
+prefix_tree prefix.Minus place operand = e.Minus place operand
 
 -- brackets leave nothing in the tree
 abbrev pub expr_tree : ExprText → Expr
@@ -140,13 +165,15 @@ expr_tree (truth place) = e.True place
 expr_tree (falsity place) = e.False place
 expr_tree (variable n) = e.Name n
 expr_tree (result place) = e.Res place
+expr_tree (number digits place) = e.Number place (pos (number_value digits))
 expr_tree (bracketed left inner right) = expr_tree inner
-expr_tree (negation place operand) = e.Not place (expr_tree operand)
-expr_tree (binary left operator place right) = binary_tree operator (expr_tree left) (expr_tree right)
+expr_tree (prefixed by place operand) = prefix_tree by place (expr_tree operand)
+expr_tree (binary left row place right) = infix_tree row.operator (expr_tree left) (expr_tree right)
 
 -- Types and parameters.
 
 abbrev pub type_token : TypeName → Tok
+type_token (Z place) = sign kind.TypeZ place
 type_token (B place) = sign kind.TypeB place
 type_token (UnitType place) = sign kind.TypeUnit place
 

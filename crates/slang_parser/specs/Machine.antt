@@ -1,6 +1,6 @@
 -- A machine that reads a text token by token. It is private to the contracts of this crate, and serves to prove them:
 -- what it reads to the end is the text's tree by the grammar (`proofs/Sound`, `proofs/Complete`).
-use Rattle.std.specs.Prelude.{ℕ, suc, Bool, ◌&&◌, if◌then◌else◌, nat_le, List, [], ◌∷◌, ◌++◌, Option, Some, None, option_and_then}
+use Rattle.std.specs.Prelude.{ℕ, suc, ◌+◌, ◌*◌, Bool, ◌&&◌, if◌then◌else◌, nat_le, nat_lt, pos, List, [], ◌∷◌, ◌++◌, Option, Some, None, option_and_then}
 use Rattle.std.specs.Option.{option_map}
 use Rattle.lk_ast.specs.declared.tree.Place.{Place}
 use Rattle.lk_ast.specs.declared.tree.Name.{Name}
@@ -13,40 +13,68 @@ use Rattle.lk_ast.specs.declared.tree.Stmt.{Stmt}
 use Rattle.lk_ast.specs.declared.tree.Stmt.TheVariants as statement
 use Rattle.lk_ast.specs.declared.tree.Return.{Return}
 use Rattle.lk_ast.specs.declared.tree.TypeName.{TypeName}
-use Rattle.lk_ast.specs.declared.tree.TypeName.TheVariants.{B, Unit as UnitType}
+use Rattle.lk_ast.specs.declared.tree.TypeName.TheVariants.{Z, B, Unit as UnitType}
 use Rattle.lk_ast.specs.declared.tree.Expr.{Expr}
 use Rattle.lk_ast.specs.declared.tree.Expr.TheVariants as e
 use Rattle.slang_lexer.specs.declared.token.TokenKind.{TokenKind}
 use Rattle.slang_lexer.specs.declared.token.TokenKind.TheVariants as kind
 use Rattle.slang_tokens.specs.Tok.{Tok, same_kind}
-use Rattle.slang_parser.specs.declared.operator.Operator.{Operator}
-use Rattle.slang_parser.specs.declared.operator.Operator.TheVariants.{Disjunction, Conjunction}
+use Rattle.slang_lexer.specs.Next.{value_of as number_value}
+use Rattle.lk_ast.specs.declared.tree.Operator.{Operator}
+use Rattle.slang_parser.specs.declared.operator.Side.{Side}
+use Rattle.slang_parser.specs.declared.operator.Side.TheVariants.{Left, Right}
+use Rattle.slang_parser.specs.declared.operator.Prefix.{Prefix}
+use Rattle.slang_parser.specs.declared.operator.Prefix.TheVariants as prefix
+use Rattle.slang_parser.specs.declared.operator.Infix.{Infix}
+use Rattle.slang_parser.specs.Operators.{entry, infix_of}
 use Rattle.slang_parser.specs.declared.body.PartWord.{PartWord}
 use Rattle.slang_parser.specs.declared.body.PartWord.TheVariants as words
 use Rattle.slang_parser.specs.declared.contract.ClauseWord.{ClauseWord}
 use Rattle.slang_parser.specs.declared.contract.ClauseWord.TheVariants.{Requiring, Ensuring}
-use Rattle.slang_parser.specs.Grammar.{is_plain, operator_level, binary_tree, word_order, part_order, with_clause, with_stmt, with_return, bare_method}
+use Rattle.slang_parser.specs.Grammar.{is_plain, is_numeral, infix_tree, prefix_tree, word_order, part_order, with_clause, with_stmt, with_return, bare_method}
+
+-- a row of the code's table
+abbrev pub row_infix : TokenKind × Operator × ℕ × Side → Infix
+row_infix row = entry row.0 row.1 row.2 row.3
+
+abbrev pub apart : Side → Side → ℕ
+apart Left Left = 1
+apart Left Right = 2
+apart Right Left = 2
+apart Right Right = 1
+
+-- How strongly an operator pulls its operand on this side. An operand between two operators goes to the one that pulls it
+-- more strongly, and to none where both pull alike: then both are of one level and join to two sides.
+abbrev pub pull : Side → Infix → ℕ
+pull side row = 2 * row.level + apart side row.joins
 
 -- what is open around an operand: brackets, prefixes, and operators that wait for their right operand
 pub data Around : Type 0 where
   alone : Around
   inside : Around → Around
-  negated : Place → Around → Around
-  right_of : Expr → Operator → Around → Around
+  under : Prefix → Place → Around → Around
+  right_of : Expr → Infix → Around → Around
+
+-- how strongly it pulls the operand
+abbrev pub held : Around → ℕ
+held alone = 0
+held (inside around) = 0
+held (under by place around) = 19
+held (right_of left row around) = pull Right row
 
 -- an expression, and what is still open around it
 pub record Grown : Type 0 where
   pub expr : Expr
   pub around : Around
 
--- the operand, grown by the prefixes and by the operators from this level on, up to an open bracket
+-- the operand, grown by the prefixes and by the operators that pull it more strongly than this, up to an open bracket
 abbrev pub close : ℕ → Expr → Around → Grown
 close least expr alone = record { expr = expr; around = alone }
 close least expr (inside around) = record { expr = expr; around = inside around }
-close least expr (negated place around) = close least (e.Not place expr) around
-close least expr (right_of left operator around) =
-    if nat_le least (operator_level operator) then close least (binary_tree operator left expr) around
-    else record { expr = expr; around = right_of left operator around }
+close least expr (under by place around) = close least (prefix_tree by place expr) around
+close least expr (right_of left row around) =
+    if nat_lt least (pull Right row) then close least (infix_tree row.operator left expr) around
+    else record { expr = expr; around = right_of left row around }
 
 -- the declarations before a method, and the method so far
 pub record Draft : Type 0 where
@@ -116,17 +144,35 @@ is_name token = is kind.Name token && is_plain token.text
 abbrev pub name_of : Tok → Name
 name_of token = record { text = token.text; place = token.place }
 
+abbrev pub is_number_token : Tok → Bool
+is_number_token token = is kind.Number token && is_numeral token.text
+
 abbrev pub on : {A : Type 0} → Bool → A → Option A
 on test value = if test then Some value else None
 
 abbrev pub type_of : Tok → Option TypeName
-type_of token = if is kind.TypeB token then Some (B token.place) else on (is kind.TypeUnit token) (UnitType token.place)
+type_of token =
+    if is kind.TypeZ token then Some (Z token.place)
+    else (if is kind.TypeB token then Some (B token.place)
+    else on (is kind.TypeUnit token) (UnitType token.place))
 
 abbrev pub word_of : Tok → Option ClauseWord
 word_of token = if is kind.Requires token then Some Requiring else on (is kind.Ensures token) Ensuring
 
-abbrev pub operator_of : Tok → Option Operator
-operator_of token = if is kind.Bar token then Some Disjunction else on (is kind.Ampersand token) Conjunction
+abbrev pub operator_of : Tok → Option Infix
+operator_of token = infix_of token.kind
+
+abbrev pub prefix_of : Tok → Option Prefix
+prefix_of token = if is kind.Bang token then Some prefix.Not else on (is kind.Minus token) prefix.Minus
+
+-- the expression that a token is by itself
+abbrev pub leaf_of : Tok → Option Expr
+leaf_of token =
+    if is kind.True token then Some (e.True token.place)
+    else (if is kind.False token then Some (e.False token.place)
+    else (if is kind.Res token then Some (e.Res token.place)
+    else (if is_name token then Some (e.Name (name_of token))
+    else on (is_number_token token) (e.Number token.place (pos (number_value token.text))))))
 
 abbrev pub part_word_of : Tok → Option PartWord
 part_word_of token =
@@ -136,14 +182,19 @@ part_word_of token =
     else on (is kind.Return token) words.Return))
 
 -- an operand is due
+abbrev pub next_bracket : Around → Purpose → Tok → Option State
+next_bracket around at token = on (is kind.LeftParen token) (want (inside around) at)
+
+abbrev pub next_prefix : Around → Purpose → Tok → Option Prefix → Option State
+next_prefix around at token (Some by) = Some (want (under by token.place around) at)
+next_prefix around at token None = next_bracket around at token
+
+abbrev pub next_leaf : Around → Purpose → Tok → Option Expr → Option State
+next_leaf around at token (Some leaf) = Some (have leaf around at)
+next_leaf around at token None = next_prefix around at token (prefix_of token)
+
 abbrev pub next_operand : Around → Purpose → Tok → Option State
-next_operand around at token =
-    if is kind.True token then Some (have (e.True token.place) around at)
-    else (if is kind.False token then Some (have (e.False token.place) around at)
-    else (if is kind.Res token then Some (have (e.Res token.place) around at)
-    else (if is_name token then Some (have (e.Name (name_of token)) around at)
-    else (if is kind.Bang token then Some (want (negated token.place around) at)
-    else on (is kind.LeftParen token) (want (inside around) at)))))
+next_operand around at token = next_leaf around at token (leaf_of token)
 
 -- a claim of a clause has come to its end
 abbrev pub next_claim : Claims → Tok → Option State
@@ -167,13 +218,16 @@ next_whole expr (return_of draft place) token = next_part_end (with_draft_return
 abbrev pub next_behind : Expr → Around → Purpose → Tok → Option State
 next_behind expr alone at token = next_whole expr at token
 next_behind expr (inside around) at token = on (is kind.RightParen token) (have expr around at)
-next_behind expr (negated place around) at token = None
-next_behind expr (right_of left operator around) at token = None
+next_behind expr (under by place around) at token = None
+next_behind expr (right_of left row around) at token = None
+
+-- the operator takes what has grown as its left operand, where it pulls it more strongly than what is still open
+abbrev pub next_right : Grown → Purpose → Infix → Option State
+next_right grown at row = on (nat_lt (held grown.around) (pull Left row)) (want (right_of grown.expr row grown.around) at)
 
 -- an operand has been read
-abbrev pub next_operator : Expr → Around → Purpose → Tok → Option Operator → Option State
-next_operator expr around at token (Some operator) =
-    let grown = close (operator_level operator) expr around in Some (want (right_of grown.expr operator grown.around) at)
+abbrev pub next_operator : Expr → Around → Purpose → Tok → Option Infix → Option State
+next_operator expr around at token (Some row) = next_right (close (pull Left row) expr around) at row
 next_operator expr around at token None = let grown = close 0 expr around in next_behind grown.expr grown.around at token
 
 abbrev pub next_clause : Draft → ℕ → Option ClauseWord → Option State

@@ -64,7 +64,7 @@ fn claims<'t, 'a>(
         return Err(Stop::Refused);
     }
     'claims: while more {
-        let (claim, behind) = expression(alloc, 1, rest)?;
+        let (claim, behind) = expression(alloc, 0, rest)?;
         claims.push(claim)?;
         (more, rest) = member_end(TokenKind::Comma, TokenKind::RightParen, behind)?;
     }

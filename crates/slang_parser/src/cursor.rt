@@ -1,11 +1,12 @@
-ghost use Rattle.std.specs.Prelude.{◌≡◌, ◌+◌, ◌<◌, ◌∷◌, [], length, IfOk, IfErr, IsTrue};
+ghost use Rattle.std.specs.Prelude.{◌≡◌, ◌+◌, ◌<◌, ◌∷◌, [], length, pos, IfOk, IfErr, IsTrue};
 ghost use Rattle.slang_tokens.specs.Tok.{tok, toks};
-ghost use Rattle.slang_parser.specs.Machine.{State, is, is_name, name_of};
+ghost use Rattle.slang_parser.specs.Machine.{State, is, is_name, name_of, is_number_token, on};
+ghost use Rattle.slang_lexer.specs.Next.{value_of};
 ghost use Rattle.slang_parser.specs.Gives.{IfRefused, Moves, Refuses, Expects};
 
 use crate::stop::Stop;
 use lk_ast::{Name, Text};
-use slang_lexer::TokenKind;
+use slang_lexer::{TokenKind, number_value};
 use slang_tokens::Lexeme;
 use std::alloc::{AllocError, Global};
 
@@ -43,6 +44,16 @@ pub fn name_of(alloc: Global, token: &Lexeme<'_>) -> Result<Name, AllocError>
         text: Text::from_str(alloc, token.text)?,
         place: token.place,
     })
+}
+
+/// The number that a token is.
+pub fn number_of(token: &Lexeme<'_>) -> Option<i128>
+    ensures { result ≡ on (is_number_token (tok token.now)) (pos (value_of token.now.text.now)) }
+{
+    if !is(TokenKind::Number, token) {
+        return None;
+    }
+    number_value(token.text)
 }
 
 /// The tokens behind one of this kind.

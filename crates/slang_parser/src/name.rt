@@ -21,6 +21,9 @@ use std::alloc::Global;
 fn type_of(token: &Lexeme<'_>) -> Option<TypeName>
     ensures { result ≡ type_of (tok token.now) }
 {
+    if is(TokenKind::TypeZ, token) {
+        return Some(TypeName::Z(token.place));
+    }
     if is(TokenKind::TypeB, token) {
         return Some(TypeName::B(token.place));
     }

@@ -45,7 +45,7 @@ pub fn value_declaration<'t, 'a>(
     let (name, named) = name(alloc, tokens)?;
     let (ty, typed) = optional_type(named)?;
     let due = expect(TokenKind::Equals, typed)?;
-    let (value, rest) = expression(alloc, 1, due)?;
+    let (value, rest) = expression(alloc, 0, due)?;
     Ok((
         Stmt::Val {
             place,
@@ -68,7 +68,7 @@ pub fn assertion<'t, 'a>(
     ensures refused { IfErr result (λ stop. IfRefused stop ((draft : Draft) → Refuses tokens.now (assert_due draft place))) }
 {
     let inside = expect(TokenKind::LeftParen, tokens)?;
-    let (claim, end) = expression(alloc, 1, inside)?;
+    let (claim, end) = expression(alloc, 0, inside)?;
     let rest = expect(TokenKind::RightParen, end)?;
     Ok((Stmt::Assert { place, claim }, rest))
 }
@@ -83,6 +83,6 @@ pub fn return_value<'t, 'a>(
     ensures shorter { IfOk result (λ r. length r.1.now < length tokens.now) }
     ensures refused { IfErr result (λ stop. IfRefused stop ((draft : Draft) → Refuses tokens.now (want alone (return_of draft place)))) }
 {
-    let (value, rest) = expression(alloc, 1, tokens)?;
+    let (value, rest) = expression(alloc, 0, tokens)?;
     Ok((Return { place, value }, rest))
 }

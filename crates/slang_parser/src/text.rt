@@ -74,7 +74,8 @@ fn method_end<'t, 'a>(tokens: &'t [Lexeme<'a>]) -> Result<(bool, &'t [Lexeme<'a>
 
 /// The tree of a text.
 ///
-/// At this stage a text has methods over truth values, each with parameters, a contract, `val`s, `assert`s and a return.
+/// At this stage a text has methods over truth values and whole numbers, each with parameters, a contract, `val`s,
+/// `assert`s and a return.
 /// Bytes of any other form have the one fault 14 at 1:1.
 pub fn parse(alloc: Global, bytes: &[u8]) -> Result<File, ParseEnd>
     ensures read { IfOk result (Reads bytes.now) }

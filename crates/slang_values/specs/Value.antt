@@ -1,5 +1,6 @@
 -- The types of Slang, their values over whole numbers without bound, and what the operators do to values. All is total: a
--- value that an operator cannot take counts as the number 0, the truth value F or the empty sequence.
+-- value that an operator cannot take counts as the number 0 or the truth value F and has the size 0; a read, an update or an append of what is no sequence, and
+-- a field of what is no record, is `unit`.
 use Rattle.std.specs.Prelude.{◌≡◌, ℕ, zero, suc, ◌+◌, ℤ, pos, negsuc, List, [], ◌∷◌, map, length, get_or, Bool, true, false, ◌&&◌, ◌==◌, ◌<◌, ◌≤◌, nat_lt, ⊤, Option, Some, None}
 use Rattle.std.specs.Ordering.{int_eq}
 use Rattle.std.specs.Option.{option_map_or}

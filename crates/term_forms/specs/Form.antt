@@ -1,5 +1,5 @@
 -- What a part and a form stand for, and what the walk over a term answers.
-use Rattle.std.specs.Prelude.{◌≡◌, ℕ, ◌≤◌, List, map, true, false, unsigned_abs, Result, Ok, Err}
+use Rattle.std.specs.Prelude.{◌≡◌, ℕ, ◌^◌, ◌≤◌, List, map, true, false, unsigned_abs, Result, Ok, Err}
 use Rattle.std.specs.List.{AllByRecursion}
 use Rattle.slang_values.specs.Tree.{Tree, Trees}
 use Rattle.tree_forms.specs.Form.{FormPart, LinearForm, form, form_term, form_terms, has_small_numbers, is_narrow, are_narrow}
@@ -18,6 +18,11 @@ form_of f = record { parts = map part_of f.parts.items; constant = f.constant }
 -- the times of the parts are within n
 abbrev pub TimesWithin : ℕ → List FormPart → Type 0
 TimesWithin n ps = AllByRecursion (λ p. unsigned_abs p.times ≤ n) ps
+
+-- the numbers have room in 128 bits for one more such number
+pub record HasRoom (f : LinearForm) : Type 0 where
+  pub constant : unsigned_abs f.constant ≤ 2 ^ 126
+  pub times : TimesWithin (2 ^ 126) f.parts
 
 -- the form itself, where its numbers are within 2^60, and else Wide
 abbrev pub IsNarrowed : LinearForm → Result Form FormEnd → Type 0

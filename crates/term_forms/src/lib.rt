@@ -11,6 +11,7 @@ mod terms;
 
 pub use form::{Form, FormEnd, Part};
 pub use linear::linear_form;
+pub use operators::difference;
 pub use terms::form_term;
 
 /// Want of memory.

@@ -2,11 +2,11 @@ ghost use Rattle.std.specs.Prelude.{◌≡◌, IfOk, true, neg_ℤ};
 ghost use Rattle.slang_values.specs.Tree.{unary, binary, literal};
 ghost use Rattle.tree_forms.specs.Form as forms;
 ghost use Rattle.term_trees.specs.Term.{tree};
-ghost use Rattle.term_forms.specs.Form.{form_of};
+ghost use Rattle.term_forms.specs.Form.{form_of, HasRoom};
 
 use crate::form::Form;
-use crate::numbers;
 use crate::terms::form_term;
+use crate::{NoMemory, numbers};
 use slang_values::{Binary, Unary};
 use std::alloc::{AllocError, Global};
 use std::cmp::Ordering;
@@ -75,10 +75,12 @@ fn two_terms(alloc: Global, left: Form, right: Form) -> Result<(Term, Term), All
     Ok((a, b))
 }
 
-fn difference(left: Form, right: Form) -> Result<Form, AllocError>
+/// The form of a difference, from the forms of its parts.
+pub fn difference(left: Form, right: Form) -> Result<Form, NoMemory>
     requires first { forms.has_small_numbers (form_of left) ≡ true }
     requires second { forms.has_small_numbers (form_of right) ≡ true }
-    ensures { IfOk result (λ f. form_of f ≡ forms.binary_form Binary.Sub (form_of left) (form_of right)) }
+    ensures form { IfOk result (λ f. form_of f ≡ forms.binary_form Binary.Sub (form_of left) (form_of right)) }
+    ensures room { IfOk result (λ f. HasRoom (form_of f)) }
 {
     left.plus(right.times(-1))
 }

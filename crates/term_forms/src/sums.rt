@@ -2,7 +2,7 @@ ghost use Rattle.std.specs.Prelude.{◌≡◌, ◌^◌, ◌≤◌, IfOk, true, m
 ghost use Rattle.std.specs.List.{list_all};
 ghost use Rattle.tree_forms.specs.Form as forms;
 ghost use Rattle.term_trees.specs.Term.{tree};
-ghost use Rattle.term_forms.specs.Form.{part_of, form_of, TimesWithin, IsNarrowed};
+ghost use Rattle.term_forms.specs.Form.{part_of, form_of, TimesWithin, HasRoom, IsNarrowed};
 
 use crate::form::{Form, FormEnd, Part};
 use crate::numbers;
@@ -20,7 +20,8 @@ impl Form {
         }
     }
 
-    pub(crate) fn of_atom(alloc: Global, atom: Term) -> Result<Form, AllocError>
+    /// The atom alone, once.
+    pub fn of_atom(alloc: Global, atom: Term) -> Result<Form, AllocError>
         ensures { IfOk result (λ f. form_of f ≡ forms.atom_form (tree atom)) }
     {
         let mut parts = Vec::new(alloc);
@@ -56,17 +57,20 @@ impl Form {
         }
     }
 
-    pub(crate) fn plus(self, other: Form) -> Result<Form, AllocError>
+    /// The sum of two forms.
+    pub fn plus(self, other: Form) -> Result<Form, AllocError>
         requires first { forms.has_small_numbers (form_of self) ≡ true }
         requires second { forms.has_small_numbers (form_of other) ≡ true }
-        ensures { IfOk result (λ f. form_of f ≡ forms.plus (form_of self) (form_of other)) }
+        ensures sum { IfOk result (λ f. form_of f ≡ forms.plus (form_of self) (form_of other)) }
+        ensures room { IfOk result (λ f. HasRoom (form_of f)) }
     {
         let constant = numbers::sum(self.constant, other.constant);
         let parts = with_all(self.parts, other.parts)?;
         Ok(Form { parts, constant })
     }
 
-    pub(crate) fn times(self, by: i128) -> Form
+    /// The form taken so many times.
+    pub fn times(self, by: i128) -> Form
         requires small { forms.has_small_numbers (form_of self) ≡ true }
         requires factor { forms.is_within by ≡ true }
         ensures { form_of result ≡ forms.scaled by (form_of self) }
@@ -95,7 +99,8 @@ fn are_small(parts: &[Part]) -> bool
 fn with_all(parts: Vec<Part>, others: Vec<Part>) -> Result<Vec<Part>, AllocError>
     requires first { TimesWithin (2 ^ 60) (map part_of parts.items) }
     requires second { TimesWithin (2 ^ 60) (map part_of others.items) }
-    ensures { IfOk result (λ v. map part_of v.items ≡ forms.all_inserted (map part_of others.items) (map part_of parts.items)) }
+    ensures sum { IfOk result (λ v. map part_of v.items ≡ forms.all_inserted (map part_of others.items) (map part_of parts.items)) }
+    ensures room { IfOk result (λ v. TimesWithin (2 ^ 126) (map part_of v.items)) }
 {
     let mut all = parts;
     let mut rest = others;

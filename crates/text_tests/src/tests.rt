@@ -1,4 +1,4 @@
-use lk_ast::{Decl, Expr, Fault, File, MethodDecl, Name, Place, TypeName};
+use lk_ast::{Decl, Expr, Fault, File, MethodDecl, Name, Operator, Place, TypeName};
 use slang_parser::{ParseEnd, parse, reads_one_tree};
 use slang_tokens::{is_light, read_tokens};
 use std::alloc::Global;
@@ -9,7 +9,7 @@ const KEEP: &str =
     "def keep(p: B, q: B): Unit = {\n  Contract(\n    Requires(p & q),\n    Ensures(q)\n  )\n}\n";
 
 /// Texts that are read, each with the number of its methods.
-const READ: [(&str, usize); 25] = [
+const READ: [(&str, usize); 28] = [
     ("", 0),
     ("\n\n \t\r\n", 0),
     ("// a comment\n/* and one more */\n", 0),
@@ -56,10 +56,16 @@ const READ: [(&str, usize); 25] = [
         1,
     ),
     ("def f(): Unit = { assert((((T)))) }", 1),
+    ("def f(p: Z, q: Z): Z = { return p }", 1),
+    (
+        "def f(x: Z): B = { Contract(Requires(0 <= x, x < 10)); return -x <=\n0 __>:\nx >= 0 }",
+        1,
+    ),
+    ("def f(): Unit = { val z: Z = 1 +\n 2 }", 1),
 ];
 
 /// Texts of another form.
-const REFUSED: [&str; 24] = [
+const REFUSED: [&str; 25] = [
     "def",
     "def f",
     "def f(): Unit",
@@ -69,7 +75,8 @@ const REFUSED: [&str; 24] = [
     "def f(,): Unit = { }",
     "def f(p: B, , q: B): Unit = { }",
     "def f(p): Unit = { }",
-    "def f(p: Z): Z = { }",
+    "def f(p: ISZ[Z]): Unit = { }",
+    "def f(1: Z): Unit = { }",
     "def _(): Unit = { }",
     "def f(_: B): Unit = { }",
     "def f(p: B): Unit = { Contract(Requires()) }",
@@ -87,7 +94,7 @@ const REFUSED: [&str; 24] = [
 ];
 
 /// What no body holds between its braces.
-const REFUSED_BODIES: [&str; 64] = [
+const REFUSED_BODIES: [&str; 89] = [
     "return T; return T",
     "return T; val x = T",
     "return T; assert(T)",
@@ -103,7 +110,8 @@ const REFUSED_BODIES: [&str; 64] = [
     "val x T",
     "val x: B",
     "val x: = T",
-    "val x: Z = T",
+    "val x: 1 = T",
+    "val 1 = T",
     "val x: B, y = T",
     "val x =",
     "val x = = T",
@@ -133,7 +141,31 @@ const REFUSED_BODIES: [&str; 64] = [
     "return a !",
     "return a || b",
     "return a && b",
-    "return a == b",
+    "return a :+ b",
+    "return a + b ->: c",
+    "return a ->: b + c",
+    "return a - b -->: c",
+    "return a -->: b - c",
+    "return a + b * c ->: d",
+    "return a ->: b ->: c + d",
+    "return a ->: b -->: c * d - x",
+    "return a & b + c ->: d | x",
+    "return (a + b + c ->: d)",
+    "return a +",
+    "return + a",
+    "return * a",
+    "return -",
+    "return a - ",
+    "return a == == b",
+    "return a <= > b",
+    "return a -> b",
+    "return a = b",
+    "return 1 2",
+    "return 1a",
+    "return 1.0",
+    "return - - ",
+    "return 170141183460469231731687303715884105728",
+    "return -170141183460469231731687303715884105728",
     "return ()",
     "return (a",
     "return a)",
@@ -163,7 +195,7 @@ fn assert_name(rt: &impl Abort, name: &Name, text: &str, place: Place) {
     assert_eq!(rt; name.place, place);
 }
 
-fn only_method<'f>(rt: &impl Abort, file: &'f File) -> &'f MethodDecl {
+pub fn only_method<'f>(rt: &impl Abort, file: &'f File) -> &'f MethodDecl {
     let items = file.items.as_slice();
     assert_eq!(rt; items.len(), 1);
     match &items[0] {
@@ -185,8 +217,9 @@ fn keep_has_its_tree(rt: HostRuntime) -> Result<(), Fail> {
     let required = method.requires_.as_slice();
     assert_eq!(rt; required.len(), 1);
     match &required[0] {
-        Expr::And(place, left, right) => {
+        Expr::Binary(place, operator, left, right) => {
             assert_eq!(rt; *place, line(3, 14));
+            assert_eq!(rt; *operator, Operator::And);
             match (left.get(), right.get()) {
                 (Expr::Name(p), Expr::Name(q)) => {
                     assert_name(&rt, p, "p", line(3, 14));
@@ -207,16 +240,26 @@ fn keep_has_its_tree(rt: HostRuntime) -> Result<(), Fail> {
 }
 
 #[test]
-fn texts_are_read_or_refused(rt: HostRuntime) -> Result<(), Fail> {
-    for (text, methods) in READ {
+fn texts_are_read(rt: HostRuntime) -> Result<(), Fail> {
+    for &(text, methods) in &READ {
         let file = parse(rt.alloc(), text.as_bytes())?;
         assert_eq!(rt; file.items.len(), methods, "{text}");
     }
-    for text in REFUSED {
+    Ok(())
+}
+
+#[test]
+fn texts_are_refused(rt: HostRuntime) -> Result<(), Fail> {
+    for &text in &REFUSED {
         assert!(rt; is_refused(rt.alloc(), text.as_bytes()), "{text}");
     }
     assert!(rt; is_refused(rt.alloc(), b"def f(): Unit = { }\xff"));
-    for body in REFUSED_BODIES {
+    Ok(())
+}
+
+#[test]
+fn bodies_are_refused(rt: HostRuntime) -> Result<(), Fail> {
+    for &body in &REFUSED_BODIES {
         let text = format!(in rt.alloc(); "def f(): B = {{ {body} }}")?;
         assert!(rt; is_refused(rt.alloc(), text.as_bytes()), "{body}");
     }
@@ -224,7 +267,7 @@ fn texts_are_read_or_refused(rt: HostRuntime) -> Result<(), Fail> {
 }
 
 /// Whether the parser answers the fault 14 at 1:1.
-fn is_refused(alloc: Global, bytes: &[u8]) -> bool {
+pub fn is_refused(alloc: Global, bytes: &[u8]) -> bool {
     match parse(alloc, bytes) {
         Err(ParseEnd::Fault(fault)) => fault
             == Fault {

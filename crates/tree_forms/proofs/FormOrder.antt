@@ -17,7 +17,7 @@ use Rattle.tree_forms.proofs.Ordered.{tree_cmp_total}
 abbrev AllAbove : Tree ℕ → List FormPart → Type 0
 AllAbove t ps = AllByRecursion (λ p. tree_cmp t p.atom ≡ Less) ps
 
-abbrev AreNotZero : List FormPart → Type 0
+abbrev pub AreNotZero : List FormPart → Type 0
 AreNotZero ps = AllByRecursion (λ p. p.times ≢ pos 0) ps
 
 above_more : (s t : Tree ℕ) (ps : List FormPart) → tree_cmp s t ≡ Less → AllAbove t ps → AllAbove s ps
@@ -97,10 +97,10 @@ zero_multiplied k (p ∷ ps) n h = (nonzero_product k p.times n h.0, zero_multip
 one≢zero : pos 1 ≢ pos 0
 one≢zero e = absurd (omega (arith, ints, e))
 
-order_atom : (t : Tree ℕ) → IsInOrder (atom_form t)
+pub order_atom : (t : Tree ℕ) → IsInOrder (atom_form t)
 order_atom t = record { ascending = (tt, tt); not_zero = (one≢zero, tt) }
 
-order_plus : (f g : LinearForm) → IsInOrder f → IsInOrder g → IsInOrder (plus f g)
+pub order_plus : (f g : LinearForm) → IsInOrder f → IsInOrder g → IsInOrder (plus f g)
 order_plus f g h k = record {
   ascending = ascend_all g.parts f.parts h.ascending;
   not_zero = zero_all g.parts f.parts k.not_zero h.not_zero;
@@ -113,7 +113,7 @@ scaled_at false k f z h = record {
   not_zero = zero_multiplied k f.parts (λ e. false≢true (z e)) h.not_zero;
 }
 
-order_scaled : (k : ℤ) (f : LinearForm) → IsInOrder f → IsInOrder (scaled k f)
+pub order_scaled : (k : ℤ) (f : LinearForm) → IsInOrder f → IsInOrder (scaled k f)
 order_scaled k f h = scaled_at (int_eq k (pos 0)) k f (λ e. (Decides-int_eq _ _).1 e) h
 
 order_if : (b : Bool) (f g : LinearForm) → IsInOrder f → IsInOrder g → IsInOrder (cond b f g)

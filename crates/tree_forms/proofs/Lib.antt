@@ -3,4 +3,5 @@ pub mod FormOrder
 pub mod FormValues
 pub mod Narrow
 pub mod Ordered
+pub mod Settled
 pub mod TreesApart

@@ -1,5 +1,10 @@
-pub mod Tables
+pub mod ClaimTypes
+pub mod Methods
 pub mod NotedClaims
+pub mod Numbering
+pub mod Operands
+pub mod Parts
 pub mod Scopes
 pub mod Statements
-pub mod Methods
+pub mod Tables
+pub mod WellTyped

@@ -1,6 +1,6 @@
 -- The rules and the program of one method, from its parts.
-use Rattle.std.proofs.Common.{◌≡◌, ℕ, ◌+◌, false, List, [], ◌∷◌, ◌++◌, Option, length, map, ap, ◌∙◌, subst, arith, length-append}
-use Rattle.std.proofs.lemmas.List.{length-map}
+use Rattle.std.proofs.Common.{◌≡◌, ℕ, false, List, [], ◌∷◌, ◌++◌, Option, length, map, ap, ◌∙◌, subst, arith, length-append}
+use Rattle.std.proofs.lemmas.List.{length-map, map-append}
 use Rattle.std.specs.List.{All, IsDistinct, list_any}
 use Rattle.std.specs.Str.{bytes_eq}
 use Rattle.lk_ast.specs.declared.tree.Expr.{Expr}
@@ -13,42 +13,50 @@ use Rattle.lk_ast.specs.declared.typed.NodePlace.{NodePlace}
 use Rattle.lk_ast.specs.declared.typed.Method.{Method}
 use Rattle.lk_ast.specs.ExprTree.{expr_tree, place_of}
 use Rattle.lk_ast.specs.ProgramTree.{CodeTree, NotedTree, MethodTree, ProgramTree, code_tree, noted_tree, method_tree}
-use Rattle.type_check.specs.Typing.{AreStatementsOver, IsClaimOver, IsReturnOver, IsTruthType, IsWellTypedMethod}
-use Rattle.type_check.specs.Typing.{body_node, code_from, ensures_scope, local_names, local_types, method_nodes, node_at, noted_from, number_of_result, over}
-use Rattle.type_check.specs.Typing.{param_names, places_of, result_number, returned_code, scope_of, type_of, typed_method, typed_param, val_names}
+use Rattle.lk_ast.specs.WellTyped.{IsVariableType}
+use Rattle.type_check.specs.declared.scope.Variable.{Variable}
+use Rattle.type_check.specs.Types.{type_of}
+use Rattle.type_check.specs.Scope.{names_in, over, scope_of}
+use Rattle.type_check.specs.Expressions.{IsClaimOver, node_at}
+use Rattle.type_check.specs.Statements.{AreStatementsOver, IsReturnOver, places_of, val_variables}
+use Rattle.type_check.specs.Typing.{IsWellTypedMethod, body_node, local_variables, method_nodes, param_variables, result_of, typed_method}
 use Rattle.type_check.proofs.Scopes.{IsDistinct-cons, IsDistinct-front, IsDistinct-head, IsDistinct-tail}
 
-pub well_typed : (decl : MethodDecl) (names : List (List ℕ)) (own : Option ℕ)
-    → names ≡ param_names decl
-    → own ≡ number_of_result decl.result (result_number decl)
-    → All (λ param. IsTruthType param.ty) decl.params
-    → IsDistinct bytes_eq (names ++ val_names decl.body)
-    → list_any (bytes_eq decl.name.text) (names ++ val_names decl.body) ≡ false
-    → All (λ claim. IsClaimOver (over names) (expr_tree claim)) decl.requires_
-    → All (λ claim. IsClaimOver (scope_of names own) (expr_tree claim)) decl.ensures_
-    → AreStatementsOver names decl.body
-    → IsReturnOver (names ++ val_names decl.body) decl.result decl.returned
+pub well_typed : (decl : MethodDecl) (variables : List FieldTy) (own : Option Variable)
+    → variables ≡ param_variables decl
+    → own ≡ result_of (type_of decl.result) (length (local_variables decl))
+    → All (λ param. IsVariableType (type_of param.ty)) decl.params
+    → IsDistinct bytes_eq (names_in (variables ++ val_variables variables decl.body))
+    → list_any (bytes_eq decl.name.text) (names_in (variables ++ val_variables variables decl.body)) ≡ false
+    → All (λ claim. IsClaimOver (over variables) (expr_tree claim)) decl.requires_
+    → All (λ claim. IsClaimOver (scope_of variables own) (expr_tree claim)) decl.ensures_
+    → AreStatementsOver variables decl.body
+    → IsReturnOver (variables ++ val_variables variables decl.body) (type_of decl.result) decl.returned
     → IsWellTypedMethod decl
-well_typed decl names own named numbered params distinct new requires_ ensures_ body returned = record {
+well_typed decl variables own is numbered params distinct new requires_ ensures_ body returned = record {
   params = params;
-  scope = IsDistinct-cons decl.name.text (local_names decl) (subst (λ ns. IsDistinct bytes_eq (ns ++ val_names decl.body)) named distinct)
-      (subst (λ ns. list_any (bytes_eq decl.name.text) (ns ++ val_names decl.body) ≡ false) named new);
-  requires_ = subst (λ ns. All (λ claim. IsClaimOver (over ns) (expr_tree claim)) decl.requires_) named requires_;
-  ensures_ = subst (λ o. All (λ claim. IsClaimOver (scope_of (param_names decl) o) (expr_tree claim)) decl.ensures_) numbered
-      (subst (λ ns. All (λ claim. IsClaimOver (scope_of ns own) (expr_tree claim)) decl.ensures_) named ensures_);
-  body = subst (λ ns. AreStatementsOver ns decl.body) named body;
-  returned = subst (λ ns. IsReturnOver (ns ++ val_names decl.body) decl.result decl.returned) named returned;
+  scope = IsDistinct-cons decl.name.text (names_in (local_variables decl))
+      (subst (λ vs. IsDistinct bytes_eq (names_in (vs ++ val_variables vs decl.body))) is distinct)
+      (subst (λ vs. list_any (bytes_eq decl.name.text) (names_in (vs ++ val_variables vs decl.body)) ≡ false) is new);
+  requires_ = subst (λ vs. All (λ claim. IsClaimOver (over vs) (expr_tree claim)) decl.requires_) is requires_;
+  ensures_ = subst (λ o. All (λ claim. IsClaimOver (scope_of (param_variables decl) o) (expr_tree claim)) decl.ensures_) numbered
+      (subst (λ vs. All (λ claim. IsClaimOver (scope_of vs own) (expr_tree claim)) decl.ensures_) is ensures_);
+  body = subst (λ vs. AreStatementsOver vs decl.body) is body;
+  returned = subst (λ vs. IsReturnOver (vs ++ val_variables vs decl.body) (type_of decl.result) decl.returned) is returned;
 }
 
 -- what the rules say of the names
-pub locals_distinct : (decl : MethodDecl) → IsWellTypedMethod decl → IsDistinct bytes_eq (local_names decl)
-locals_distinct decl rules = IsDistinct-tail decl.name.text (local_names decl) rules.scope
+pub locals_distinct : (decl : MethodDecl) → IsWellTypedMethod decl → IsDistinct bytes_eq (names_in (local_variables decl))
+locals_distinct decl rules = IsDistinct-tail decl.name.text (names_in (local_variables decl)) rules.scope
 
-pub params_distinct : (decl : MethodDecl) → IsWellTypedMethod decl → IsDistinct bytes_eq (param_names decl)
-params_distinct decl rules = IsDistinct-front (param_names decl) (val_names decl.body) (locals_distinct decl rules)
+pub params_distinct : (decl : MethodDecl) → IsWellTypedMethod decl → IsDistinct bytes_eq (names_in (param_variables decl))
+params_distinct decl rules =
+    let vals = val_variables (param_variables decl) decl.body in
+    IsDistinct-front (names_in (param_variables decl)) (names_in vals)
+    (subst (IsDistinct bytes_eq) (map-append (λ (v : FieldTy). v.name) (param_variables decl) vals) (locals_distinct decl rules))
 
-pub name_differs : (decl : MethodDecl) → IsWellTypedMethod decl → list_any (bytes_eq decl.name.text) (local_names decl) ≡ false
-name_differs decl rules = IsDistinct-head decl.name.text (local_names decl) rules.scope
+pub name_differs : (decl : MethodDecl) → IsWellTypedMethod decl → list_any (bytes_eq decl.name.text) (names_in (local_variables decl)) ≡ false
+name_differs decl rules = IsDistinct-head decl.name.text (names_in (local_variables decl)) rules.scope
 
 -- how many nodes stand before those of the body
 pub nodes_before_body : (decl : MethodDecl) → length (node_at decl.name.place ∷ places_of decl.requires_ ++ places_of decl.ensures_) ≡ body_node decl
@@ -102,21 +110,17 @@ program methods nodes = record { methods = methods; nodes = nodes }
 pub program_is : (decl : MethodDecl) (name : List ℕ) (params : List FieldTy) (ty : Ty) (assumed shown : List Noted) (locals : List Ty) (body : List Code) (methods : List Method) (nodes : List NodePlace)
     → methods ≡ method_of name params ty assumed shown locals body ∷ []
     → name ≡ decl.name.text
-    → params ≡ map typed_param decl.params
+    → params ≡ param_variables decl
     → ty ≡ type_of decl.result
-    → map noted_tree assumed ≡ noted_from 1 (over (param_names decl)) decl.requires_
-    → map noted_tree shown ≡ noted_from (1 + length decl.requires_) (ensures_scope decl) decl.ensures_
-    → locals ≡ local_types decl
-    → map code_tree body ≡ code_from (body_node decl) (param_names decl) decl.body
-    ++ returned_code (body_node decl + length decl.body) (result_number decl) (local_names decl) decl.returned
+    → map noted_tree assumed ≡ (typed_method decl).requires_
+    → map noted_tree shown ≡ (typed_method decl).ensures_
+    → locals ≡ (typed_method decl).locals
+    → map code_tree body ≡ (typed_method decl).body
     → nodes ≡ method_nodes decl
     → program (map method_tree methods) nodes ≡ program (typed_method decl ∷ []) (method_nodes decl)
 program_is decl name params ty assumed shown locals body methods nodes all e1 e2 e3 e4 e5 e6 e7 e8 =
+    let it = typed_method decl in
     ap (λ ms. program (map method_tree ms) nodes) all
-    ∙ same_tree name decl.name.text params (map typed_param decl.params) ty (type_of decl.result)
-    (map noted_tree assumed) (noted_from 1 (over (param_names decl)) decl.requires_)
-    (map noted_tree shown) (noted_from (1 + length decl.requires_) (ensures_scope decl) decl.ensures_)
-    locals (local_types decl)
-    (map code_tree body) (code_from (body_node decl) (param_names decl) decl.body ++ returned_code (body_node decl + length decl.body) (result_number decl) (local_names decl) decl.returned)
-    nodes (method_nodes decl)
-    e1 e2 e3 e4 e5 e6 e7 e8
+    ∙ same_tree name decl.name.text params (param_variables decl) ty (type_of decl.result)
+    (map noted_tree assumed) it.requires_ (map noted_tree shown) it.ensures_ locals it.locals (map code_tree body) it.body
+    nodes (method_nodes decl) e1 e2 e3 e4 e5 e6 e7 e8

@@ -1,10 +1,12 @@
 -- Names that are added to a scope one after another.
-use Rattle.std.proofs.Common.{◌≡◌, ℕ, ◌+◌, ◌<◌, Bool, true, false, ◌||◌, List, [], ◌∷◌, ◌++◌, length, get_or, take, drop, ap, ◌∙◌, sym, refl}
+use Rattle.std.proofs.Common.{◌≡◌, ℕ, ◌+◌, ◌<◌, Bool, true, false, ◌||◌, List, [], ◌∷◌, ◌++◌, length, get_or, take, drop, ap, ◌∙◌, sym, refl, subst}
 use Rattle.std.specs.List.{AllByRecursion, IsDistinct, list_any}
 use Rattle.std.specs.Str.{bytes_eq}
 use Rattle.std.proofs.lemmas.Cmp.{nat_list_eq_equiv}
-use Rattle.std.proofs.lemmas.List.{take-append-drop, drop_more}
+use Rattle.std.proofs.lemmas.List.{map-append, take-append-drop, drop_more}
 use Rattle.std.proofs.lemmas.Map.Keys.{IsDistinct-push}
+use Rattle.lk_ast.specs.declared.typed.FieldTy.{FieldTy}
+use Rattle.type_check.specs.Scope.{names_in}
 use Rattle.type_check.specs.Refusal.{Refuses}
 use Rattle.type_check.specs.declared.refusal.Refusal.{Refusal}
 use Rattle.type_check.specs.declared.refusal.Refusal.TheVariants.{Rule, NoMemory}
@@ -24,11 +26,11 @@ both_false : (a b : Bool) → a ≡ false → b ≡ false → (a || b) ≡ false
 both_false true b h k = h
 both_false false b h k = k
 
-neither_left : (a b : Bool) → (a || b) ≡ false → a ≡ false
+pub neither_left : (a b : Bool) → (a || b) ≡ false → a ≡ false
 neither_left true b h = h
 neither_left false b h = refl
 
-neither_right : (a b : Bool) → (a || b) ≡ false → b ≡ false
+pub neither_right : (a b : Bool) → (a || b) ≡ false → b ≡ false
 neither_right true b h = cc
 neither_right false b h = h
 
@@ -80,3 +82,22 @@ IsDistinct-tail x names distinct = distinct.1
 pub IsDistinct-head : (x : List ℕ) (names : List (List ℕ)) → IsDistinct bytes_eq (x ∷ names) → list_any (bytes_eq x) names ≡ false
 unfolding IsDistinct
 IsDistinct-head x names distinct = none_from_apart x names distinct.0
+
+-- ---- variables
+
+-- the name of one more variable
+pub names_more : (variables : List FieldTy) (variable : FieldTy) → names_in (variables ++ variable ∷ []) ≡ names_in variables ++ variable.name ∷ []
+names_more variables variable = map-append (λ (v : FieldTy). v.name) variables (variable ∷ [])
+
+-- a variable with a new name may be added
+pub IsDistinct-added : (variables : List FieldTy) (variable : FieldTy) → IsDistinct bytes_eq (names_in variables) → list_any (bytes_eq variable.name) (names_in variables) ≡ false
+    → IsDistinct bytes_eq (names_in (variables ++ variable ∷ []))
+IsDistinct-added variables variable distinct new =
+    subst (IsDistinct bytes_eq) (sym (names_more variables variable)) (IsDistinct-more (names_in variables) variable.name distinct new)
+
+-- the name of a variable among those with distinct names is none of those before it
+pub new_among : (variables : List FieldTy) (variable : FieldTy) (others : List FieldTy) → IsDistinct bytes_eq (names_in (variables ++ variable ∷ others))
+    → list_any (bytes_eq variable.name) (names_in variables) ≡ false
+new_among variables variable others distinct =
+    new_there (names_in variables) variable.name (names_in others)
+    (subst (IsDistinct bytes_eq) (map-append (λ (v : FieldTy). v.name) variables (variable ∷ others)) distinct)

@@ -1,139 +1,122 @@
-ghost use Rattle.std.specs.Prelude.{◌≡◌, ◌++◌, ◌∷◌, [], length, map, None, IfOk, IfErr, OnOk};
+ghost use Rattle.std.specs.Prelude.{◌≡◌, ◌++◌, ◌∷◌, [], length, map, Some, IfOk, IfErr, OnOk};
 ghost use Rattle.std.specs.List.{IsDistinct};
 ghost use Rattle.std.specs.Str.{bytes_eq};
-ghost use Rattle.lk_ast.specs.ExprTree.{expr_tree};
 ghost use Rattle.lk_ast.specs.ProgramTree.{code_tree};
-ghost use Rattle.type_check.specs.Typing.{AreStatementsOver, IsReturnOver, IsTruthTypeIfAny, body_places, code_from, returned_code, returned_places, statement_place, val_names};
+ghost use Rattle.type_check.specs.Scope.{names_in};
+ghost use Rattle.type_check.specs.Statements.{AreStatementsOver, IsOfWritten, IsReturnOver, body_places, code_from, returned_code, returned_places, statement_places, val_variables};
 ghost use Rattle.type_check.specs.Refusal.{Refuses};
 
-use crate::claims::{claim_of, number, place_of};
-use crate::names::NameTable;
+use crate::claims::noted_of;
+use crate::expressions::expr_of;
+use crate::nodes::{add_node, number};
 use crate::refusal::Refusal;
 use crate::scope::declare;
-use lk_ast::{Code, NodeNo, NodePlace, Noted, Place, Return, Stmt, TypeName};
+use crate::types::{test_type, test_variable_type, type_of};
+use crate::variables::Variables;
+use lk_ast::{Code, NodePlace, Return, Stmt, Ty, TypeName};
 use sqlite_items::Items;
 use std::alloc::Global;
 
-/// Tests a type that may be left out.
-fn test_type(ty: &Option<TypeName>) -> Result<(), Refusal>
-    ensures ok { OnOk result (IsTruthTypeIfAny ty.now) }
-    ensures err { IfErr result (λ end. Refuses end (IsTruthTypeIfAny ty.now)) }
+/// Tests the type of a value against one that may be left out.
+fn test_written(written: &Option<TypeName>, found: Ty) -> Result<(), Refusal>
+    ensures ok { OnOk result (IsOfWritten written.now (Some found)) }
+    ensures err { IfErr result (λ end. Refuses end (IsOfWritten written.now (Some found))) }
 {
-    let Some(ty) = *ty else {
-        return Ok(());
-    };
-    match ty {
-        TypeName::B(_) => Ok(()),
-        TypeName::Unit(_) => Err(Refusal::Rule),
+    match *written {
+        None => Ok(()),
+        Some(written) => test_type(found, type_of(written)),
     }
 }
 
-/// The code of a statement, which has this node. The name of a `val` is in scope from then on.
+/// The code of a statement. Its nodes are added to those so far, and the variable of a `val` to those in scope.
 fn statement_code(
     alloc: Global,
-    names: &mut NameTable,
+    variables: &mut Variables,
     statement: &Stmt,
-    node: NodeNo,
+    nodes: &mut Items<NodePlace>,
 ) -> Result<Code, Refusal>
-    ensures rules { OnOk result (AreStatementsOver names.old (statement.now ∷ [])) }
-    ensures scope { OnOk result (IsDistinct bytes_eq names.old → IsDistinct bytes_eq names.new) }
-    ensures names { OnOk result (names.new ≡ names.old ++ val_names (statement.now ∷ [])) }
-    ensures code { IfOk result (λ code. code_tree code ∷ [] ≡ code_from node.0 names.old (statement.now ∷ [])) }
-    ensures err { IfErr result (λ end. Refuses end (AreStatementsOver names.old (statement.now ∷ [])
-        × IsDistinct bytes_eq (names.old ++ val_names (statement.now ∷ [])))) }
+    ensures rules { OnOk result (AreStatementsOver variables.old (statement.now ∷ [])) }
+    ensures scope { OnOk result (IsDistinct bytes_eq (names_in variables.old) → IsDistinct bytes_eq (names_in variables.new)) }
+    ensures variables { OnOk result (variables.new ≡ variables.old ++ val_variables variables.old (statement.now ∷ [])) }
+    ensures code { IfOk result (λ code. code_tree code ∷ [] ≡ code_from (length nodes.old) variables.old (statement.now ∷ [])) }
+    ensures nodes { OnOk result (nodes.new ≡ nodes.old ++ statement_places statement.now) }
+    ensures err { IfErr result (λ end. Refuses end (AreStatementsOver variables.old (statement.now ∷ [])
+        × IsDistinct bytes_eq (names_in (variables.old ++ val_variables variables.old (statement.now ∷ []))))) }
 {
     match statement {
         Stmt::Val {
+            place,
             name,
             ty,
             value,
-            ..
         } => {
-            test_type(ty)?;
-            let value = claim_of(alloc, names, None, value)?;
-            let variable = number(names.len())?;
-            declare(alloc, names, name)?;
+            let node = add_node(nodes, *place)?;
+            let (value, found) = expr_of(alloc, variables, value, nodes)?;
+            test_written(ty, found)?;
+            let variable = number(variables.len())?;
+            declare(alloc, variables, name, found)?;
             Ok(Code::Val {
                 node,
                 variable,
                 value,
             })
         }
-        Stmt::Assert { claim, .. } => {
-            let claim = claim_of(alloc, names, None, claim)?;
-            Ok(Code::Assert(Noted { claim, node }))
-        }
+        Stmt::Assert { claim, .. } => Ok(Code::Assert(noted_of(
+            alloc, variables, None, claim, nodes,
+        )?)),
     }
 }
 
-/// The place of a statement.
-fn place_of_statement(statement: &Stmt) -> Place
-    ensures { result ≡ statement_place statement.now }
-{
-    match statement {
-        Stmt::Val { place, .. } => *place,
-        Stmt::Assert { claim, .. } => place_of(claim),
-    }
-}
-
-/// The code of the statements. The nodes are added to those so far, and the names of the `val`s to those in scope.
+/// The code of the statements. The nodes are added to those so far, and the variables of the `val`s to those in scope.
 pub fn code_of(
     alloc: Global,
-    names: &mut NameTable,
+    variables: &mut Variables,
     body: &[Stmt],
     nodes: &mut Items<NodePlace>,
 ) -> Result<Items<Code>, Refusal>
-    ensures rules { OnOk result (AreStatementsOver names.old body.now) }
-    ensures scope { OnOk result (IsDistinct bytes_eq names.old → IsDistinct bytes_eq names.new) }
-    ensures names { OnOk result (names.new ≡ names.old ++ val_names body.now) }
-    ensures code { IfOk result (λ code. map code_tree code ≡ code_from (length nodes.old) names.old body.now) }
+    ensures rules { OnOk result (AreStatementsOver variables.old body.now) }
+    ensures scope { OnOk result (IsDistinct bytes_eq (names_in variables.old) → IsDistinct bytes_eq (names_in variables.new)) }
+    ensures variables { OnOk result (variables.new ≡ variables.old ++ val_variables variables.old body.now) }
+    ensures code { IfOk result (λ code. map code_tree code ≡ code_from (length nodes.old) variables.old body.now) }
     ensures nodes { OnOk result (nodes.new ≡ nodes.old ++ body_places body.now) }
-    ensures err { IfErr result (λ end. Refuses end (AreStatementsOver names.old body.now × IsDistinct bytes_eq (names.old ++ val_names body.now))) }
+    ensures err { IfErr result (λ end. Refuses end (AreStatementsOver variables.old body.now
+        × IsDistinct bytes_eq (names_in (variables.old ++ val_variables variables.old body.now)))) }
 {
     let mut code = Items::new(alloc);
     for statement in body {
-        let node = NodeNo(number(nodes.len())?);
-        let next = statement_code(alloc, names, statement, node)?;
+        let next = statement_code(alloc, variables, statement, nodes)?;
         code.push(next)?;
-        nodes.push(NodePlace {
-            place: place_of_statement(statement),
-        })?;
     }
     Ok(code)
 }
 
-/// The code of a return, if there is one, where the result has this type and this number. Its node is added to those so far.
+/// The code of a return, if there is one, where the result has this type and this number. Its nodes are added to those so far.
 pub fn return_of(
     alloc: Global,
-    names: &NameTable,
-    ty: TypeName,
-    number_of_result: u32,
+    variables: &Variables,
+    ty: Ty,
+    result_number: u32,
     returned: &Option<Return>,
     nodes: &mut Items<NodePlace>,
 ) -> Result<Items<Code>, Refusal>
-    ensures rules { OnOk result (IsReturnOver names.now ty returned.now) }
-    ensures code { IfOk result (λ code. map code_tree code ≡ returned_code (length nodes.old) number_of_result names.now returned.now) }
+    ensures rules { OnOk result (IsReturnOver variables.now ty returned.now) }
+    ensures code { IfOk result (λ code. map code_tree code ≡ returned_code (length nodes.old) result_number variables.now returned.now) }
     ensures nodes { OnOk result (nodes.new ≡ nodes.old ++ returned_places returned.now) }
-    ensures err { IfErr result (λ end. Refuses end (IsReturnOver names.now ty returned.now)) }
+    ensures err { IfErr result (λ end. Refuses end (IsReturnOver variables.now ty returned.now)) }
 {
     let mut code = Items::new(alloc);
     let Some(returned) = returned else {
-        return match ty {
-            TypeName::B(_) => Err(Refusal::Rule),
-            TypeName::Unit(_) => Ok(code),
-        };
+        test_type(ty, Ty::Unit)?;
+        return Ok(code);
     };
-    let TypeName::B(_) = ty else {
-        return Err(Refusal::Rule);
-    };
-    let value = claim_of(alloc, names, None, &returned.value)?;
+    test_variable_type(ty)?;
+    let node = add_node(nodes, returned.place)?;
+    let (value, found) = expr_of(alloc, variables, &returned.value, nodes)?;
+    test_type(found, ty)?;
     code.push(Code::Return {
-        node: NodeNo(number(nodes.len())?),
-        result: number_of_result,
+        node,
+        result: result_number,
         value,
-    })?;
-    nodes.push(NodePlace {
-        place: returned.place,
     })?;
     Ok(code)
 }

@@ -1,121 +1,127 @@
-ghost use Rattle.std.specs.Prelude.{◌≡◌, ◌++◌, ◌∷◌, ℕ, List, length, map, IfOk, IfErr, OnOk, IsSome, unwrap_or};
-ghost use Rattle.std.specs.List.{All, Contains, position_or_len};
-ghost use Rattle.std.specs.Str.{bytes_eq};
-ghost use Rattle.lk_ast.specs.ClaimTree.{claim_tree, variable};
+ghost use Rattle.std.specs.Prelude.{◌≡◌, ◌++◌, ◌∷◌, [], length, map, Some, IfOk, IfErr, OnOk};
+ghost use Rattle.std.specs.List.{All};
+ghost use Rattle.lk_ast.specs.ClaimTree.{claim_tree};
 ghost use Rattle.lk_ast.specs.ExprTree.{expr_tree, place_of};
 ghost use Rattle.lk_ast.specs.ProgramTree.{noted_tree};
-ghost use Rattle.type_check.specs.Typing.{IsClaimOver, claim_over, noted_from, places_of, scope_of};
-ghost use Rattle.type_check.specs.Refusal.{Refuses};
+ghost use Rattle.type_check.specs.Scope.{number_of, scope_of, type_named};
+ghost use Rattle.type_check.specs.Expressions.{IsClaimOver, claim_over, node_at, type_in};
+ghost use Rattle.type_check.specs.Statements.{noted_at, noted_from, places_of};
+ghost use Rattle.type_check.specs.Refusal.{HasNone, Refuses};
 
-use crate::names::NameTable;
+use crate::nodes::{add_node, number, place_of};
 use crate::refusal::Refusal;
-use lk_ast::{Claim, Expr, Name, NodeNo, NodePlace, Noted, Place};
-use sqlite_items::{Boxed, Items};
-use std::alloc::{AllocError, Global};
+use crate::scope::Variable;
+use crate::types::{between, in_front, test_type};
+use crate::variables::Variables;
+use lk_ast::{Claim, Expr, Name, NodePlace, Noted, Ty};
+use slang_values::Unary;
+use sqlite_items::Items;
+use std::alloc::Global;
 
-/// A count as a number of the program, where there is one.
-pub fn number(count: usize) -> Result<u32, AllocError>
-    ensures { IfOk result (λ n. n ≡ count) }
+/// The variable of a name.
+pub fn variable(variables: &Variables, name: &Name) -> Result<Variable, Refusal>
+    ensures ok { IfOk result (λ it. (type_named variables.now name.now.text ≡ Some it.ty) × (it.number ≡ number_of variables.now name.now.text)) }
+    ensures err { IfErr result (λ end. HasNone end (type_named variables.now name.now.text)) }
 {
-    u32::try_from(count).map_err(|_| AllocError)
-}
-
-/// The claim that an expression is over the names, where the result of the method has this number.
-#[tactic(auto, using(lk_ast::proofs::Trees::trees))]
-pub fn claim_of(
-    alloc: Global,
-    names: &NameTable,
-    own: Option<u32>,
-    expr: &Expr,
-) -> Result<Claim, Refusal>
-    ensures ok { IfOk result (λ c. IsClaimOver (scope_of names.now own) (expr_tree expr.now)
-        × (claim_tree c ≡ claim_over (scope_of names.now own) (expr_tree expr.now))) }
-    ensures err { IfErr result (λ end. Refuses end (IsClaimOver (scope_of names.now own) (expr_tree expr.now))) }
-{
-    match expr {
-        Expr::True(_) => Ok(Claim::True),
-        Expr::False(_) => Ok(Claim::False),
-        Expr::Name(name) => variable(names, name),
-        Expr::Res(_) => result_variable(own),
-        Expr::Not(_, operand) => {
-            let operand = claim_of(alloc, names, own, operand.get())?;
-            Ok(Claim::Not(Boxed::new(alloc, operand)?))
-        }
-        Expr::And(_, left, right) => {
-            let left = claim_of(alloc, names, own, left.get())?;
-            let right = claim_of(alloc, names, own, right.get())?;
-            Ok(Claim::And(Boxed::new(alloc, left)?, Boxed::new(alloc, right)?))
-        }
-        Expr::Or(_, left, right) => {
-            let left = claim_of(alloc, names, own, left.get())?;
-            let right = claim_of(alloc, names, own, right.get())?;
-            Ok(Claim::Or(Boxed::new(alloc, left)?, Boxed::new(alloc, right)?))
-        }
-    }
-}
-
-/// The variable that a name stands for.
-#[tactic(auto, using(lk_ast::proofs::Trees::trees))]
-fn variable(names: &NameTable, name: &Name) -> Result<Claim, Refusal>
-    ensures ok { IfOk result (λ c. Contains names.now name.now.text
-        × (claim_tree c ≡ variable (position_or_len (bytes_eq name.now.text) names.now))) }
-    ensures err { IfErr result (λ end. Refuses end (Contains names.now name.now.text)) }
-{
-    match names.place_of(name.text.as_str()) {
+    match variables.find(name.text.as_str()) {
         None => Err(Refusal::Rule),
-        Some(place) => Ok(Claim::Var(number(place)?)),
+        Some((place, ty)) => Ok(Variable {
+            number: number(place)?,
+            ty,
+        }),
     }
 }
 
 /// The variable that `Res` stands for, where it may stand.
-#[tactic(auto, using(lk_ast::proofs::Trees::trees))]
-fn result_variable(own: Option<u32>) -> Result<Claim, Refusal>
-    ensures ok { IfOk result (λ c. IsSome own × (claim_tree c ≡ variable (unwrap_or own 0))) }
-    ensures err { IfErr result (λ end. Refuses end (IsSome own)) }
+fn result_variable(own: Option<Variable>) -> Result<Variable, Refusal>
+    ensures ok { IfOk result (λ it. own ≡ Some it) }
+    ensures err { IfErr result (λ end. HasNone end own) }
 {
     match own {
         None => Err(Refusal::Rule),
-        Some(number) => Ok(Claim::Var(number)),
+        Some(variable) => Ok(variable),
     }
 }
 
-/// The place of an expression.
-#[tactic(auto, using(lk_ast::proofs::Trees::trees))]
-pub fn place_of(expr: &Expr) -> Place
-    ensures { result ≡ place_of (expr_tree expr.now) }
+/// The claim that an expression is, and its type, where these variables are in scope and this is the result.
+#[tactic(auto, using(lk_ast::proofs::Trees::expr_lines, lk_ast::proofs::Trees::claim_lines))]
+fn claim_of(
+    alloc: Global,
+    variables: &Variables,
+    own: Option<Variable>,
+    expr: &Expr,
+) -> Result<(Claim, Ty), Refusal>
+    ensures ty { IfOk result (λ it. type_in (scope_of variables.now own) (expr_tree expr.now) ≡ Some it.1) }
+    ensures claim { IfOk result (λ it. claim_tree it.0 ≡ claim_over (scope_of variables.now own) (expr_tree expr.now)) }
+    ensures err { IfErr result (λ end. HasNone end (type_in (scope_of variables.now own) (expr_tree expr.now))) }
 {
     match expr {
-        Expr::True(place) => *place,
-        Expr::False(place) => *place,
-        Expr::Name(name) => name.place,
-        Expr::Res(place) => *place,
-        Expr::Not(place, _) => *place,
-        Expr::And(place, _, _) => *place,
-        Expr::Or(place, _, _) => *place,
+        Expr::Number(_, number) => Ok((Claim::Lit(*number), Ty::Z)),
+        Expr::True(_) => Ok((Claim::Truth(true), Ty::B)),
+        Expr::False(_) => Ok((Claim::Truth(false), Ty::B)),
+        Expr::Name(name) => {
+            let found = variable(variables, name)?;
+            Ok((Claim::Var(found.number), found.ty))
+        }
+        Expr::Res(_) => {
+            let found = result_variable(own)?;
+            Ok((Claim::Var(found.number), found.ty))
+        }
+        Expr::Minus(_, operand) => {
+            let (operand, ty) = claim_of(alloc, variables, own, operand.get())?;
+            let found = in_front(Ty::Z, ty)?;
+            Ok((Claim::unary(alloc, Unary::Neg, operand)?, found))
+        }
+        Expr::Not(_, operand) => {
+            let (operand, ty) = claim_of(alloc, variables, own, operand.get())?;
+            let found = in_front(Ty::B, ty)?;
+            Ok((Claim::unary(alloc, Unary::Not, operand)?, found))
+        }
+        Expr::Binary(_, operator, left, right) => {
+            let (left, left_ty) = claim_of(alloc, variables, own, left.get())?;
+            let (right, right_ty) = claim_of(alloc, variables, own, right.get())?;
+            let found = between(*operator, left_ty, right_ty)?;
+            Ok((Claim::connected(alloc, *operator, left, right)?, found))
+        }
     }
+}
+
+/// A claim of the text with its node, which is added to those so far.
+pub fn noted_of(
+    alloc: Global,
+    variables: &Variables,
+    own: Option<Variable>,
+    expr: &Expr,
+    nodes: &mut Items<NodePlace>,
+) -> Result<Noted, Refusal>
+    ensures rule { OnOk result (IsClaimOver (scope_of variables.now own) (expr_tree expr.now)) }
+    ensures noted { IfOk result (λ noted. noted_tree noted ≡ noted_at (length nodes.old) (scope_of variables.now own) expr.now) }
+    ensures nodes { OnOk result (nodes.new ≡ nodes.old ++ node_at (place_of (expr_tree expr.now)) ∷ []) }
+    ensures err { IfErr result (λ end. Refuses end (IsClaimOver (scope_of variables.now own) (expr_tree expr.now))) }
+{
+    let node = add_node(nodes, place_of(expr))?;
+    let (claim, ty) = claim_of(alloc, variables, own, expr)?;
+    test_type(ty, Ty::B)?;
+    Ok(Noted { claim, node })
 }
 
 /// The claims of a list, each with its node. The nodes are added to those so far.
 pub fn claims_of(
     alloc: Global,
-    names: &NameTable,
-    own: Option<u32>,
+    variables: &Variables,
+    own: Option<Variable>,
     claims: &[Expr],
     nodes: &mut Items<NodePlace>,
 ) -> Result<Items<Noted>, Refusal>
-    ensures rules { OnOk result (All (λ claim. IsClaimOver (scope_of names.now own) (expr_tree claim)) claims.now) }
-    ensures claims { IfOk result (λ noted. map noted_tree noted ≡ noted_from (length nodes.old) (scope_of names.now own) claims.now) }
+    ensures rules { OnOk result (All (λ claim. IsClaimOver (scope_of variables.now own) (expr_tree claim)) claims.now) }
+    ensures claims { IfOk result (λ noted. map noted_tree noted ≡ noted_from (length nodes.old) (scope_of variables.now own) claims.now) }
     ensures nodes { OnOk result (nodes.new ≡ nodes.old ++ places_of claims.now) }
-    ensures err { IfErr result (λ end. Refuses end (All (λ claim. IsClaimOver (scope_of names.now own) (expr_tree claim)) claims.now)) }
+    ensures err { IfErr result (λ end. Refuses end (All (λ claim. IsClaimOver (scope_of variables.now own) (expr_tree claim)) claims.now)) }
 {
     let mut noted = Items::new(alloc);
     for expr in claims {
-        let claim = claim_of(alloc, names, own, expr)?;
-        let node = NodeNo(number(nodes.len())?);
-        noted.push(Noted { claim, node })?;
-        nodes.push(NodePlace {
-            place: place_of(expr),
-        })?;
+        let next = noted_of(alloc, variables, own, expr, nodes)?;
+        noted.push(next)?;
     }
     Ok(noted)
 }

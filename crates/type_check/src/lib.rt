@@ -3,9 +3,13 @@
 
 mod body;
 mod claims;
-mod names;
+mod expressions;
+pub mod laws;
+mod nodes;
 mod program;
 mod refusal;
 mod scope;
+mod types;
+mod variables;
 
 pub use program::{CheckEnd, check_program};

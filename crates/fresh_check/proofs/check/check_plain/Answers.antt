@@ -1,5 +1,5 @@
 use Rattle.std.proofs.Common.{Err, ap}
-use Rattle.fresh_check.proofs.OutputLaws.{refused_unread, refused_untyped}
+use Rattle.fresh_check.proofs.OutputLaws.{methods_of, refused_unread, refused_untyped}
 use Rattle.fresh_check.proofs.check.check_plain.Goals as goal
 
 pub returns-in-Err-Fault : goal.returns-in-Err-Fault
@@ -13,3 +13,6 @@ returns-in-Err-Fault-check_program c =
     refused_untyped c.args.bytes.now c.in-Err-Fault-check_program.fault c.in-Ok.file c.in-Ok.ensures.only
     (λ well. let never = c.in-Err-Fault-check_program.ensures.only well in absurd (cc))
     (c.in-Err-Fault-check_program.ensures.fault c.in-Err-Fault-check_program.fault (ap Err c.in-Err-Fault-check_program.field-0-is)) c.refused-in-Err-Fault-check_program.result c.refused-in-Err-Fault-check_program.ensures
+
+pub lines_of-requires : goal.lines_of-requires
+lines_of-requires c = methods_of c.in-Ok-check_program.typed c.in-Ok-check_program.ensures.well_typed c.as_slice.result.now c.as_slice.ensures

@@ -1,5 +1,5 @@
-use Rattle.method_check.proofs.VerdictLaws.{safe_from_verified}
+use Rattle.method_check.proofs.VerdictLaws.{verified_is_safe}
 use Rattle.method_check.proofs.laws.verified_method_is_safe.Goals as goal
 
 pub returns : goal.returns
-returns c = safe_from_verified
+returns c = verified_is_safe

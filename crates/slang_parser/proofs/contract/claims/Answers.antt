@@ -1,4 +1,4 @@
-use Rattle.std.proofs.Common.{◌≡◌, ◌++◌, ◌∷◌, [], true, Some, List, ap, ◌∙◌, sym, arith}
+use Rattle.std.proofs.Common.{◌≡◌, ◌++◌, ◌∷◌, [], true, Some, List, refl, ap, ◌∙◌, sym, arith}
 use Rattle.lk_ast.specs.declared.tree.Expr.{Expr}
 use Rattle.slang_tokens.specs.Tok.{toks}
 use Rattle.slang_parser.specs.Machine.{Claims, alone, want, claim_of, run}
@@ -22,7 +22,7 @@ claims-preserved c = record {
       let at : List Expr → Claims = λ claims. record { draft = draft; word = word; claims = claims } in
       c.claims.invariant.reads draft word
       ∙ turned_more (want alone (claim_of (at c.claims.claims))) (clause_over (at c.claims.claims)) c.claims.more (toks c.claims.rest.now) c.claims-test.true
-      ∙ c.in_ok-claim.ensures.reads alone (claim_of (at c.claims.claims)) tt
+      ∙ c.in_ok-claim.ensures.reads alone (claim_of (at c.claims.claims)) refl
       ∙ claim_turn c.in_ok-claim.claim (at c.claims.claims) (toks c.in_ok-claim.behind.now) c.in_ok-claim.ensures.stops
       ∙ ap (turned (want alone (claim_of (at (c.claims.claims ++ c.in_ok-claim.claim ∷ [])))) (clause_over (at (c.claims.claims ++ c.in_ok-claim.claim ∷ [])))) c.in_ok-more.ensures.turn
       ∙ ap (λ claims. turned (want alone (claim_of (at claims))) (clause_over (at claims)) (Some (c.in_ok-more.field-0-0, toks c.in_ok-more.field-0-1.now))) (sym c.in_ok-push.ensures.ok);

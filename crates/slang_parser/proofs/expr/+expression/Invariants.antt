@@ -1,6 +1,5 @@
-use Rattle.std.proofs.Common.{◌+◌, ◌*◌, ◌<◌, length}
-use Rattle.slang_parser.specs.Machine.{Around, Purpose, want, have}
-use Rattle.slang_parser.specs.Below.{Below}
+use Rattle.std.proofs.Common.{◌+◌, ◌*◌, ◌<◌, ◌≡◌, length}
+use Rattle.slang_parser.specs.Machine.{Around, Purpose, want, have, held}
 use Rattle.slang_parser.specs.Gives.{Moves}
 use Rattle.slang_parser.proofs.expr.+expression.Given as goal
 
@@ -14,7 +13,7 @@ decreases-operand l = 2 * length l.tokens.now
 -- the operands and operators so far are one operand
 abbrev pub invariant-expression-operators : goal.invariant-expression-operators
 invariant-expression-operators l = record {
-  reads : (around : Around) (at : Purpose) → Below around l.least → Moves l.fn.tokens (want around at) l.rest (have l.left around at);
+  reads : (around : Around) (at : Purpose) → held around ≡ l.before → Moves l.fn.tokens (want around at) l.rest (have l.left around at);
   shorter : length l.rest < length l.fn.tokens;
 }
 

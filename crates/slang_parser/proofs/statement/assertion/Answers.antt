@@ -15,19 +15,19 @@ pub returns-in_err-claim-clause-refused : goal.returns-in_err-claim-clause-refus
 returns-in_err-claim-clause-refused c =
     passed_on c.from_residual-in_err-claim.result _ _ _ c.from_residual-in_err-claim.ensures.1 c.in_err-claim.ensures.refused (λ none draft.
     c.in_ok-inside.ensures.reads (assert_due draft c.args.place) (want alone (assertion_of draft c.args.place)) (expects kind.LeftParen _ _ refl (λ token. refl))
-    ∙ none alone (assertion_of draft c.args.place) tt)
+    ∙ none alone (assertion_of draft c.args.place) refl)
 
 pub returns-in_err-rest-clause-refused : goal.returns-in_err-rest-clause-refused
 returns-in_err-rest-clause-refused c =
     passed_on c.from_residual-in_err-rest.result _ _ _ c.from_residual-in_err-rest.ensures.1 c.in_err-rest.ensures.refused (λ none draft.
     c.in_ok-inside.ensures.reads (assert_due draft c.args.place) (want alone (assertion_of draft c.args.place)) (expects kind.LeftParen _ _ refl (λ token. refl))
-    ∙ c.in_ok-claim.ensures.reads alone (assertion_of draft c.args.place) tt
+    ∙ c.in_ok-claim.ensures.reads alone (assertion_of draft c.args.place) refl
     ∙ none (have c.in_ok-claim.claim alone (assertion_of draft c.args.place)) (part_end (with_draft_stmt draft (statement.Assert c.args.place c.in_ok-claim.claim)) 1)
     (assertion_due c.in_ok-claim.claim draft c.args.place c.in_ok-claim.ensures.stops))
 
 pub returns-clause-reads : goal.returns-clause-reads
 returns-clause-reads c = λ draft.
     c.in_ok-inside.ensures.reads (assert_due draft c.args.place) (want alone (assertion_of draft c.args.place)) (expects kind.LeftParen _ _ refl (λ token. refl))
-    ∙ c.in_ok-claim.ensures.reads alone (assertion_of draft c.args.place) tt
+    ∙ c.in_ok-claim.ensures.reads alone (assertion_of draft c.args.place) refl
     ∙ c.in_ok-rest.ensures.reads (have c.in_ok-claim.claim alone (assertion_of draft c.args.place)) (part_end (with_draft_stmt draft (statement.Assert c.args.place c.in_ok-claim.claim)) 1)
     (assertion_due c.in_ok-claim.claim draft c.args.place c.in_ok-claim.ensures.stops)

@@ -19,12 +19,12 @@ returns-in_err-value-clause-refused c =
     c.in_ok-name.ensures.val draft c.args.place
     ∙ c.in_ok-ty.ensures.reads draft c.args.place c.in_ok-name.name
     ∙ c.in_ok-due.ensures.reads (val_equals draft c.args.place c.in_ok-name.name c.in_ok-ty.ty) (want alone (value_of draft c.args.place c.in_ok-name.name c.in_ok-ty.ty)) (expects kind.Equals _ _ refl (λ token. refl))
-    ∙ none alone (value_of draft c.args.place c.in_ok-name.name c.in_ok-ty.ty) tt)
+    ∙ none alone (value_of draft c.args.place c.in_ok-name.name c.in_ok-ty.ty) refl)
 
 pub returns-clause-reads : goal.returns-clause-reads
 returns-clause-reads c = λ draft.
     c.in_ok-name.ensures.val draft c.args.place
     ∙ c.in_ok-ty.ensures.reads draft c.args.place c.in_ok-name.name
     ∙ c.in_ok-due.ensures.reads (val_equals draft c.args.place c.in_ok-name.name c.in_ok-ty.ty) (want alone (value_of draft c.args.place c.in_ok-name.name c.in_ok-ty.ty)) (expects kind.Equals _ _ refl (λ token. refl))
-    ∙ c.in_ok-value.ensures.reads alone (value_of draft c.args.place c.in_ok-name.name c.in_ok-ty.ty) tt
+    ∙ c.in_ok-value.ensures.reads alone (value_of draft c.args.place c.in_ok-name.name c.in_ok-ty.ty) refl
     ∙ value_ends c.in_ok-value.value draft c.args.place c.in_ok-name.name c.in_ok-ty.ty (toks c.in_ok-value.rest.now) c.in_ok-value.ensures.stops

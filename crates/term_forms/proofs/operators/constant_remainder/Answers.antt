@@ -28,4 +28,4 @@ returns c =
     let quotient : tree c.in_ok-quotient.quotient ≡ binary Binary.Div (form_term (form_of c.args.form)) (literal d) =
     c.in_ok-quotient.ensures ∙ ap₂ (binary Binary.Div) c.in_ok-dividend.ensures (ap (λ z. tree (Lit z)) (to_z-of_z w128 d c.ranges.divisor) ∙ tree-Lit d) in
     let made = c.times.ensures ∙ ap₂ scaled (to_z-of_z w128 c.opposite.result f ∙ k) (c.in_ok-quotient-2.ensures ∙ ap atom_form quotient) in
-    subst (λ (g : LinearForm). IfOk c.plus.result (λ r. form_of r ≡ plus (form_of c.args.form) g)) made c.plus.ensures
+    subst (λ (g : LinearForm). IfOk c.plus.result (λ r. form_of r ≡ plus (form_of c.args.form) g)) made c.plus.ensures.sum

@@ -1,40 +1,39 @@
-use Rattle.std.proofs.Common.{◌≡◌, [], ◌∷◌, ◌++◌, ◌+◌, length, take, drop, map, ap, sym, subst, ◌∙◌, append_assoc}
+use Rattle.std.proofs.Common.{◌≡◌, [], ◌∷◌, ◌++◌, ◌+◌, length, take, drop, map, ap, sym, subst, ◌∙◌, append_assoc, length-append}
 use Rattle.std.specs.List.{IsDistinct}
 use Rattle.std.specs.Str.{bytes_eq}
 use Rattle.std.proofs.lemmas.List.{map-append, take_more}
 use Rattle.std.proofs.lemmas.Result.{err_from_is_err_and}
-use Rattle.lk_ast.specs.declared.tree.Stmt.{Stmt}
 use Rattle.lk_ast.specs.ProgramTree.{code_tree}
-use Rattle.type_check.specs.Typing.{AreStatementsOver, body_places, code_from, node_at, statement_place, val_names}
-use Rattle.type_check.proofs.NotedClaims.{length-with_nodes, nodes-push}
-use Rattle.type_check.proofs.Scopes.{IsDistinct-front, Refuses-stronger, around}
-use Rattle.type_check.proofs.Statements.{AreStatementsOver-append, AreStatementsOver-behind, AreStatementsOver-head, code_from-append, val_names-append, val_names-around}
+use Rattle.type_check.specs.Scope.{names_in}
+use Rattle.type_check.specs.Statements.{AreStatementsOver, body_places, code_from, statement_places, val_variables}
+use Rattle.type_check.proofs.Scopes.{Refuses-stronger, around}
+use Rattle.type_check.proofs.Statements.{AreStatementsOver-append, AreStatementsOver-behind, AreStatementsOver-head, body_places-push, code_from-append, distinct_to, variables_behind}
 use Rattle.type_check.proofs.body.code_of.Goals as goal
 
 pub returns-in_err-next-clause-err : goal.returns-in_err-next-clause-err
 returns-in_err-next-clause-err c =
-    let p = err_from_is_err_and c.from_residual-in_err-next.result c.from_residual-in_err-next.ensures.1 in
-    let names = c.args.names.now in
+    let p = err_from_is_err_and c.from_residual.result c.from_residual.ensures.1 in
+    let variables = c.args.variables.now in
     let i = c.loop-statement.statement-index in
     let so_far = take i c.args.body.now in
     let rest = drop (i + 1) c.args.body.now in
     let statement = c.statement-item.result in
     let parts = around c.args.body.now i statement c.loop-statement-test.true c.statement-item.is in
-    let here = sym c.loop-statement.invariant.names in
+    let here = sym c.loop-statement.invariant.variables in
     rw (p.1, p.2) (Refuses-stronger _ (λ rules. (
-      subst (λ ns. AreStatementsOver ns (statement ∷ [])) here
-          (AreStatementsOver-head (names ++ val_names so_far) statement rest
-          (AreStatementsOver-behind names so_far (statement ∷ rest) (subst (AreStatementsOver names) parts rules.0))),
-      subst (λ ns. IsDistinct bytes_eq (ns ++ val_names (statement ∷ []))) here
-          (IsDistinct-front (names ++ val_names so_far ++ val_names (statement ∷ [])) (val_names rest)
-          (subst (IsDistinct bytes_eq) (ap (λ b. names ++ val_names b) parts ∙ val_names-around names so_far statement rest) rules.1)),
+      subst (λ vs. AreStatementsOver vs (statement ∷ [])) here
+          (AreStatementsOver-head (variables ++ val_variables variables so_far) statement rest
+          (AreStatementsOver-behind variables so_far (statement ∷ rest) (subst (AreStatementsOver variables) parts rules.0))),
+      subst (λ vs. IsDistinct bytes_eq (names_in (vs ++ val_variables vs (statement ∷ [])))) here
+          (distinct_to variables so_far statement rest (subst (λ body. IsDistinct bytes_eq (names_in (variables ++ val_variables variables body))) parts rules.1)),
     ))
     c.in_err-next.ensures.err)
 
 pub loop-statement-preserved : goal.loop-statement-preserved
 loop-statement-preserved c =
-    let names = c.args.names.now in
-    let first = length c.args.nodes.now in
+    let variables = c.args.variables.now in
+    let nodes = c.args.nodes.now in
+    let first = length nodes in
     let i = c.loop-statement.statement-index in
     let so_far = take i c.args.body.now in
     let statement = c.statement-item.result in
@@ -43,23 +42,24 @@ loop-statement-preserved c =
     let it = c.in_ok-next.ensures in
     let more : take (i + 1) c.args.body.now ≡ so_far ++ statement ∷ [] =
     take_more c.args.body.now i statement c.loop-statement-test.true ∙ ap (λ x. so_far ++ x ∷ []) (sym c.statement-item.is) in
-    let node = c.in_ok-number.ensures ∙ c.len.ensures ∙ length-with_nodes c.loop-statement.nodes c.args.nodes.now (λ (s : Stmt). node_at (statement_place s)) so_far before.nodes in
+    let count : length c.loop-statement.nodes ≡ first + length (body_places so_far) = ap length before.nodes ∙ length-append nodes (body_places so_far) in
     record {
-      rules = subst (AreStatementsOver names) (sym more)
-          (AreStatementsOver-append names so_far (statement ∷ []) before.rules (subst (λ ns. AreStatementsOver ns (statement ∷ [])) before.names it.rules));
+      rules = subst (AreStatementsOver variables) (sym more)
+          (AreStatementsOver-append variables so_far (statement ∷ []) before.rules (subst (λ vs. AreStatementsOver vs (statement ∷ [])) before.variables it.rules));
       scope = λ distinct. it.scope (before.scope distinct);
-      names = it.names ∙ ap (λ ns. ns ++ val_names (statement ∷ [])) before.names
-          ∙ append_assoc names (val_names so_far) (val_names (statement ∷ []))
-          ∙ ap (λ vals. names ++ vals) (sym (val_names-append so_far (statement ∷ [])) ∙ ap val_names (sym more));
+      variables = it.variables ∙ ap (λ vs. vs ++ val_variables vs (statement ∷ [])) before.variables
+          ∙ variables_behind variables so_far (statement ∷ [])
+          ∙ ap (λ body. variables ++ val_variables variables body) (sym more);
       code = ap (map code_tree) c.in_ok-push.ensures.ok
           ∙ map-append code_tree c.loop-statement.code (next ∷ [])
           ∙ ap (λ code. code ++ code_tree next ∷ []) before.code
-          ∙ ap (λ code. code_from first names so_far ++ code) it.code
-          ∙ ap (λ n. code_from first names so_far ++ code_from n c.loop-statement.names (statement ∷ [])) node
-          ∙ ap (λ ns. code_from first names so_far ++ code_from (first + length so_far) ns (statement ∷ [])) before.names
-          ∙ sym (code_from-append first names so_far (statement ∷ []))
-          ∙ ap (code_from first names) (sym more);
-      nodes = c.in_ok-push-2.ensures.ok
-          ∙ nodes-push c.loop-statement.nodes c.args.nodes.now statement_place so_far statement c.place_of_statement.result before.nodes c.place_of_statement.ensures
-          ∙ ap (λ body. c.args.nodes.now ++ body_places body) (sym more);
+          ∙ ap (λ code. code_from first variables so_far ++ code) it.code
+          ∙ ap (λ n. code_from first variables so_far ++ code_from n c.loop-statement.variables (statement ∷ [])) count
+          ∙ ap (λ vs. code_from first variables so_far ++ code_from (first + length (body_places so_far)) vs (statement ∷ [])) before.variables
+          ∙ sym (code_from-append first variables so_far (statement ∷ []))
+          ∙ ap (code_from first variables) (sym more);
+      nodes = it.nodes
+          ∙ ap (λ ns. ns ++ statement_places statement) before.nodes
+          ∙ append_assoc nodes (body_places so_far) (statement_places statement)
+          ∙ ap (λ ns. nodes ++ ns) (body_places-push so_far statement ∙ ap body_places (sym more));
     }

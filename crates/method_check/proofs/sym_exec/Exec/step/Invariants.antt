@@ -1,12 +1,11 @@
 use Rattle.std.proofs.Common.{◌≡◌, ◌-◌, length}
-use Rattle.lk_ast.specs.LegTree.{leg_items}
 use Rattle.method_check.specs.Steps.{pending}
 use Rattle.method_check.proofs.sym_exec.Exec.step.Given as goal
 
 -- no obligation was passed over
 abbrev pub invariant-items : goal.invariant-items
 invariant-items l = record {
-  left : pending l.fn.self (leg_items l.leg) ≡ pending l.self (leg_items l.leg);
+  left : pending l.fn.self l.leg ≡ pending l.self l.leg;
   same : l.self.end ≡ l.fn.self.end;
 }
 

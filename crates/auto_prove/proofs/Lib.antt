@@ -1,0 +1,2 @@
+pub mod Opposites
+pub mod Closings

@@ -1,0 +1,2 @@
+pub mod CanonicalParts
+pub mod Outside

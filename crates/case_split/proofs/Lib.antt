@@ -1,0 +1,4 @@
+mod Lists
+mod Joined
+mod Counts
+mod Facts

@@ -1,0 +1,5 @@
+pub mod Cases
+pub mod Literals
+pub mod Rows
+pub mod Closing
+pub mod Laws

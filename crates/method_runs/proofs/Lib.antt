@@ -1,0 +1,11 @@
+pub mod DivisionLaws
+pub mod LegLaws
+pub mod Lists
+pub mod RunLaws
+pub mod Stores
+pub mod TermValues
+pub mod Turns
+pub mod TypedLegs
+pub mod TypedTerms
+pub mod TypedValues
+pub mod WellSorted
