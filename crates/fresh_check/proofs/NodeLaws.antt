@@ -32,6 +32,7 @@ use Rattle.type_check.specs.Expressions.{part_places, typed_from}
 use Rattle.type_check.specs.Statements.{body_places, code_from, noted_from, places_of, returned_code, returned_places, val_variable}
 use Rattle.type_check.specs.Typing.{ensures_scope, body_node, local_variables, method_nodes, param_variables, program_of, typed_method}
 use Rattle.closing.specs.Closing.{closing}
+use Rattle.method_runs.specs.Symbols.{symbol_order, symbol_types}
 use Rattle.method_runs.specs.Store.{Store, unset, with_term, term_of, is_small}
 use Rattle.method_runs.specs.Legs.{assumptions, checks, divisions, guarded, is_not_zero, items_of_statement, items_of, legs, legs_of_code, nodes_of}
 use Rattle.method_runs.specs.Sequents.{Obligation, to_show, too_large, obligations_from}
@@ -68,23 +69,25 @@ either_below : (small : Bool) (count item : ℕ) (kind : Kind) (os : List Obliga
 either_below true count item kind os here rest = rest
 either_below false count item kind os here rest = (here, tt)
 
-items_below : (variables : List Ty) (count place : ℕ) (store : Store) (facts : List (Tree ℕ)) (items : List ItemTree) → place + length items ≤ count
-    → AllByRecursion (IsItemBelow count) (obligations_from variables place store facts items)
-items_below variables count place store facts [] h = tt
-items_below variables count place store facts (assume claim ∷ items) h =
+items_below : (types : List Ty) (count place : ℕ) (store : Store) (facts : List (Tree ℕ)) (items : List ItemTree) → place + length items ≤ count
+    → AllByRecursion (IsItemBelow count) (obligations_from types place store facts items)
+items_below types count place store facts [] h = tt
+items_below types count place store facts (assume claim ∷ items) h =
     either_below (is_small (term_of store claim)) count place kinds.Term _ (omega arith)
-    (items_below variables count (place + 1) store (facts ++ term_of store claim ∷ []) items (omega arith))
-items_below variables count place store facts (check kind claim ∷ items) h =
+    (items_below types count (place + 1) store (facts ++ term_of store claim ∷ []) items (omega arith))
+items_below types count place store facts (check kind claim ∷ items) h =
     either_below (is_small (term_of store claim)) count place kind _ (omega arith)
-    (omega arith, items_below variables count (place + 1) store (facts ++ term_of store claim ∷ []) items (omega arith))
-items_below variables count place store facts (set changed claim ∷ items) h =
+    (omega arith, items_below types count (place + 1) store (facts ++ term_of store claim ∷ []) items (omega arith))
+items_below types count place store facts (set changed claim ∷ items) h =
     either_below (is_small (term_of store claim)) count place kinds.Term _ (omega arith)
-    (items_below variables count (place + 1) (with_term store changed (term_of store claim)) facts items (omega arith))
+    (items_below types count (place + 1) (with_term store changed (term_of store claim)) facts items (omega arith))
 
 -- an answer names an item of its leg
 answer_below : (variables : List Ty) (items : List ItemTree) → IsBelow (length items) (answer variables items)
 answer_below variables items =
-    below_from (length items) (obligations_from variables 0 unset [] items) (items_below variables (length items) 0 unset [] items (omega arith))
+    let order = symbol_order (length variables) items in
+    let types = symbol_types variables order in
+    below_from (length items) (obligations_from types 0 (unset order) [] items) (items_below types (length items) 0 (unset order) [] items (omega arith))
 
 -- ---- the nodes of a leg
 

@@ -17,13 +17,13 @@ use Rattle.method_check.specs.declared.sym_exec.ExecEnd.TheVariants as end
 use Rattle.method_check.specs.declared.sym_exec.Next.{Next}
 use Rattle.method_check.specs.declared.sym_exec.Next.TheVariants as next
 
--- The store that a list of terms says: a variable past the list has not been set.
+-- The store that a list of terms says. A variable past the list is the symbol of its own number.
 abbrev pub store_of : List Term → Store
 store_of terms number = slice_index_or (map tree terms) number (name number)
 
 -- the obligations that are still to come
 abbrev pub pending : Exec → Leg → List Obligation
-pending exec leg = obligations_from leg.vars exec.at (store_of exec.terms) (map tree exec.facts) (drop exec.at (leg_items leg))
+pending exec leg = obligations_from exec.types exec.at (store_of exec.terms) (map tree exec.facts) (drop exec.at (leg_items leg))
 
 -- each sequent that is still to come is well sorted
 abbrev pub AreSorted : List Obligation → Type 0

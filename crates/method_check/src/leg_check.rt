@@ -30,7 +30,7 @@ pub fn answer_leg(alloc: Global, leg: &Leg) -> Result<Answer, AllocError>
     requires { IsTypedLeg leg.now }
     ensures { IfOk result (λ it. it ≡ answer leg.now.vars (leg_items leg.now)) }
 {
-    let mut exec = Exec::new(alloc);
+    let mut exec = Exec::new(alloc, leg)?;
     'checks: loop {
         match exec.next(leg) {
             Ok(

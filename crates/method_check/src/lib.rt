@@ -10,6 +10,7 @@ mod measure;
 mod sorts;
 mod store;
 mod sym_exec;
+mod symbols;
 mod verdicts;
 
 pub use laws::verified_method_is_safe;

@@ -4,25 +4,28 @@ ghost use Rattle.term_trees.specs.Term.{tree};
 ghost use Rattle.lk_terms.specs.Sequent.{sequent_of};
 ghost use Rattle.lk_terms.specs.Validity.{IsWellSorted};
 ghost use Rattle.lk_ast.specs.ClaimTree.{claim_tree};
+ghost use Rattle.lk_ast.specs.LegTree.{leg_items};
 ghost use Rattle.lk_ast.specs.WellTyped.{IsVariableType};
 ghost use Rattle.method_runs.specs.Store.{term_of, with_term, is_small};
-ghost use Rattle.method_runs.specs.Sequents.{sequent};
+ghost use Rattle.method_runs.specs.Sequents.{obligations, sequent};
 ghost use Rattle.method_check.specs.Steps.{AreSorted, IsExecEnd, IsNext, IsPast, pending, store_of};
 ghost use Rattle.method_check.specs.declared.sym_exec.ExecEnd.{ExecEnd as End};
 
 use crate::measure::is_small;
 use crate::sorts::sorts_of;
 use crate::store::{copies, set, term_of};
+use crate::symbols::{number, symbol_order, symbol_types, symbols};
 use lk_ast::{Claim, Item, Kind, Leg, Ty};
 use lk_terms::{Sequent, Term};
 use sqlite_items::Items;
 use std::alloc::{AllocError, Global};
 
-/// A place in a leg, with the terms of the variables that were set and the facts that hold there.
+/// A place in a leg, with the types of the symbols, the terms of the variables and the facts that hold there.
 #[derive(Drop)]
 pub struct Exec {
     pub alloc: Global,
     pub at: usize,
+    pub types: Items<Ty>,
     pub terms: Items<Term>,
     pub facts: Items<Term>,
     pub end: Option<ExecEnd>,
@@ -58,39 +61,36 @@ impl From<AllocError> for ExecEnd {
     }
 }
 
-/// A count as the number of an item, where there is one.
-fn number(count: usize) -> Result<u32, AllocError>
-    ensures { IfOk result (λ n. n ≡ count) }
-{
-    u32::try_from(count).map_err(|_| AllocError)
-}
-
 impl Exec {
-    /// The beginning of each leg.
-    pub fn new(alloc: Global) -> Exec
-        ensures start { result.at ≡ 0 }
-        ensures terms { result.terms ≡ [] }
-        ensures facts { result.facts ≡ [] }
-        ensures end { result.end ≡ None }
+    /// The beginning of a leg, where all that is to be shown along it is to come.
+    pub fn new(alloc: Global, leg: &Leg) -> Result<Exec, AllocError>
+        ensures start { IfOk result (λ it. pending it leg.now ≡ obligations leg.now.vars (leg_items leg.now)) }
+        ensures types { All IsVariableType leg.now.vars → IfOk result (λ it. All IsVariableType it.types) }
+        ensures end { IfOk result (λ it. it.end ≡ None) }
     {
-        Exec {
+        let order = symbol_order(alloc, leg)?;
+        let types = symbol_types(alloc, leg.vars.as_slice(), order.as_slice())?;
+        let terms = symbols(alloc, leg.vars.len(), &order)?;
+        Ok(Exec {
             alloc,
             at: 0,
-            terms: Items::new(alloc),
+            types,
+            terms,
             facts: Items::new(alloc),
             end: None,
-        }
+        })
     }
 
     /// The next sequent of the leg. After an error there is the same error again. All sequents that are to come are well sorted, as
     /// those of a well-typed leg are.
     pub fn next(&mut self, leg: &Leg) -> Result<Next, ExecEnd>
-        requires variables { All IsVariableType leg.now.vars }
+        requires types { All IsVariableType self.old.types }
         requires sorted { self.old.end ≡ None → AreSorted (pending self.old leg.now) }
         ensures next { IfOk result (λ next. IsNext next self.old self.new leg.now) }
         ensures goes_on { IfOk result (λ _. (self.old.end ≡ None) × (self.new.end ≡ None)) }
         ensures end { self.old.end ≡ None → IfErr result (λ end. IsExecEnd end self.old leg.now) }
         ensures kept { IfErr result (λ end. self.new.end ≡ Some end) }
+        ensures types { self.new.types ≡ self.old.types }
         ensures again { (end : End) → self.old.end ≡ Some end → result ≡ Err end }
     {
         if let Some(end) = self.end {
@@ -107,11 +107,12 @@ impl Exec {
 
     /// Goes along the items, up to a check.
     fn step(&mut self, leg: &Leg) -> Result<Next, ExecEnd>
-        requires variables { All IsVariableType leg.now.vars }
+        requires types { All IsVariableType self.old.types }
         requires sorted { AreSorted (pending self.old leg.now) }
         ensures next { IfOk result (λ next. IsNext next self.old self.new leg.now) }
         ensures end { IfErr result (λ end. IsExecEnd end self.old leg.now) }
         ensures same { self.new.end ≡ self.old.end }
+        ensures types { self.new.types ≡ self.old.types }
     {
         let items = leg.items.as_slice();
         'items: while self.at < items.len() {
@@ -120,7 +121,7 @@ impl Exec {
                 Item::Set(variable, claim) => self.set(*variable, claim)?,
                 Item::Check(kind, claim) => {
                     let item = number(self.at)?;
-                    let sequent = self.sequent(leg.vars.as_slice(), *kind, claim)?;
+                    let sequent = self.sequent(*kind, claim)?;
                     self.assume(*kind, claim)?;
                     return Ok(Next::Check {
                         item,
@@ -157,6 +158,7 @@ impl Exec {
         ensures small { OnOk result (is_small (term_of (store_of self.old.terms) (claim_tree claim.now)) ≡ true) }
         ensures end { IfErr result (λ end. IsPast end self.old.at kind (term_of (store_of self.old.terms) (claim_tree claim.now))) }
         ensures same { self.new.end ≡ self.old.end }
+        ensures types { self.new.types ≡ self.old.types }
     {
         let fact = self.term(kind, claim)?;
         self.facts.push(fact)?;
@@ -174,6 +176,7 @@ impl Exec {
         ensures small { OnOk result (is_small (term_of (store_of self.old.terms) (claim_tree claim.now)) ≡ true) }
         ensures end { IfErr result (λ end. IsPast end self.old.at Kind.Term (term_of (store_of self.old.terms) (claim_tree claim.now))) }
         ensures same { self.new.end ≡ self.old.end }
+        ensures types { self.new.types ≡ self.old.types }
     {
         let term = self.term(Kind::Term, claim)?;
         set(&mut self.terms, variable, term)?;
@@ -181,16 +184,16 @@ impl Exec {
         Ok(())
     }
 
-    /// The facts so far, with a claim as the goal, over the symbols of these variables.
-    fn sequent(&self, variables: &[Ty], kind: Kind, claim: &Claim) -> Result<Sequent, ExecEnd>
-        requires variables { All IsVariableType variables.now }
+    /// The facts so far, with a claim as the goal.
+    fn sequent(&self, kind: Kind, claim: &Claim) -> Result<Sequent, ExecEnd>
+        requires types { All IsVariableType self.now.types }
         requires sorted { is_small (term_of (store_of self.now.terms) (claim_tree claim.now)) ≡ true →
-            IsWellSorted (sequent variables.now (map tree self.now.facts) (term_of (store_of self.now.terms) (claim_tree claim.now))) }
-        ensures sequent { IfOk result (λ it. sequent_of it ≡ sequent variables.now (map tree self.now.facts) (term_of (store_of self.now.terms) (claim_tree claim.now))) }
+            IsWellSorted (sequent self.now.types (map tree self.now.facts) (term_of (store_of self.now.terms) (claim_tree claim.now))) }
+        ensures sequent { IfOk result (λ it. sequent_of it ≡ sequent self.now.types (map tree self.now.facts) (term_of (store_of self.now.terms) (claim_tree claim.now))) }
         ensures end { IfErr result (λ end. IsPast end self.now.at kind (term_of (store_of self.now.terms) (claim_tree claim.now))) }
     {
         let goal = self.term(kind, claim)?;
-        let sorts = sorts_of(self.alloc, variables)?;
+        let sorts = sorts_of(self.alloc, self.types.as_slice())?;
         let facts = copies(self.alloc, self.facts.as_slice())?;
         let records = Items::new(self.alloc);
         Ok(Sequent {

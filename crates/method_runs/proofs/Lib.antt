@@ -3,6 +3,7 @@ pub mod LegLaws
 pub mod Lists
 pub mod RunLaws
 pub mod Stores
+pub mod SymbolLaws
 pub mod TermValues
 pub mod Turns
 pub mod TypedLegs

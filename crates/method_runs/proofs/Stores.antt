@@ -41,17 +41,17 @@ pub same_with : (store other : Store) (changed : ℕ) (term : Tree ℕ) → AreS
 same_with store other changed term same number = ap (cond (nat_eq number changed) term) (same number)
 
 -- They leave the same to show.
-pub same_left : (variables : List Ty) (place : ℕ) (store other : Store) (facts : List (Tree ℕ)) (items : List ItemTree) → AreSame store other
-    → obligations_from variables place store facts items ≡ obligations_from variables place other facts items
-same_left variables place store other facts [] same = refl
-same_left variables place store other facts (assume claim ∷ items) same =
-    ap (λ t. if_small t place kinds.Term (obligations_from variables (place + 1) store (facts ++ t ∷ []) items)) (same_term store other same claim)
-    ∙ ap (if_small (term_of other claim) place kinds.Term) (same_left variables (place + 1) store other (facts ++ term_of other claim ∷ []) items same)
-same_left variables place store other facts (check kind claim ∷ items) same =
-    ap (λ t. if_small t place kind (to_show place kind (sequent variables facts t) ∷ obligations_from variables (place + 1) store (facts ++ t ∷ []) items)) (same_term store other same claim)
-    ∙ ap (λ rest. if_small (term_of other claim) place kind (to_show place kind (sequent variables facts (term_of other claim)) ∷ rest))
-    (same_left variables (place + 1) store other (facts ++ term_of other claim ∷ []) items same)
-same_left variables place store other facts (set changed claim ∷ items) same =
-    ap (λ t. if_small t place kinds.Term (obligations_from variables (place + 1) (with_term store changed t) facts items)) (same_term store other same claim)
+pub same_left : (types : List Ty) (place : ℕ) (store other : Store) (facts : List (Tree ℕ)) (items : List ItemTree) → AreSame store other
+    → obligations_from types place store facts items ≡ obligations_from types place other facts items
+same_left types place store other facts [] same = refl
+same_left types place store other facts (assume claim ∷ items) same =
+    ap (λ t. if_small t place kinds.Term (obligations_from types (place + 1) store (facts ++ t ∷ []) items)) (same_term store other same claim)
+    ∙ ap (if_small (term_of other claim) place kinds.Term) (same_left types (place + 1) store other (facts ++ term_of other claim ∷ []) items same)
+same_left types place store other facts (check kind claim ∷ items) same =
+    ap (λ t. if_small t place kind (to_show place kind (sequent types facts t) ∷ obligations_from types (place + 1) store (facts ++ t ∷ []) items)) (same_term store other same claim)
+    ∙ ap (λ rest. if_small (term_of other claim) place kind (to_show place kind (sequent types facts (term_of other claim)) ∷ rest))
+    (same_left types (place + 1) store other (facts ++ term_of other claim ∷ []) items same)
+same_left types place store other facts (set changed claim ∷ items) same =
+    ap (λ t. if_small t place kinds.Term (obligations_from types (place + 1) (with_term store changed t) facts items)) (same_term store other same claim)
     ∙ ap (if_small (term_of other claim) place kinds.Term)
-    (same_left variables (place + 1) (with_term store changed (term_of other claim)) (with_term other changed (term_of other claim)) facts items (same_with store other changed (term_of other claim) same))
+    (same_left types (place + 1) (with_term store changed (term_of other claim)) (with_term other changed (term_of other claim)) facts items (same_with store other changed (term_of other claim) same))

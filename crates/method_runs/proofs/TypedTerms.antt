@@ -1,6 +1,8 @@
 -- The terms of well-typed claims are well typed and closed.
-use Rattle.std.proofs.Common.{◌≡◌, ℕ, suc, List, [], ◌∷◌, Bool, true, false, cond, refl, sym, ap, ◌∙◌, subst, arith}
-use Rattle.std.specs.Prelude.{nat_eq, slice_get, Some}
+use Rattle.std.proofs.Common.{◌≡◌, ℕ, suc, ◌<◌, List, [], ◌∷◌, Bool, true, false, cond, length, get_or, refl, sym, ap, ◌∙◌, subst, arith}
+use Rattle.std.specs.Prelude.{nat_eq, slice_get, Option, None, Some}
+use Rattle.std.specs.Option.{option_map}
+use Rattle.std.proofs.lemmas.Option.{get_or_from_slice_get, slice_get-get_or, slice_get-map, slice_get_within}
 use Rattle.std.proofs.lemmas.Bool.Decides.{Decides-eqb}
 use Rattle.slang_values.specs.Value.{ValueType, number_type, truth_type, sequence_type, Records, fields, element_type}
 use Rattle.slang_values.specs.Tree.{Tree, literal, truth_literal, name, bound, unary, binary, update, quantified, listed, Trees, no_trees, tree_then, sequence_of, record_of}
@@ -9,8 +11,12 @@ use Rattle.slang_values.specs.declared.operators.Unary.{Unary}
 use Rattle.slang_values.specs.declared.operators.Binary.{Binary}
 use Rattle.lk_terms.proofs.Substitutions.{type_of_typed, IsClosed-substituted}
 use Rattle.lk_ast.specs.declared.typed.Ty.{Ty}
+use Rattle.lk_ast.specs.declared.typed.Ty.TheVariants as ty
+use Rattle.lk_ast.specs.LegTree.{ItemTree}
 use Rattle.lk_ast.specs.WellTyped.{IsOfType, value_type, variable_names, known_type, no_records}
+use Rattle.method_runs.specs.Symbols.{symbol_of, symbol_order, symbol_types}
 use Rattle.method_runs.specs.Store.{Store, unset, with_term, term_of, terms_of}
+use Rattle.method_runs.proofs.SymbolLaws.{all_symbols, symbol_there}
 
 -- ---- loose bound variables
 
@@ -38,8 +44,8 @@ module _ (store : Store) (closed : IsClosedStore store) where
     AreClosed-terms_of no_trees n h = tt
     AreClosed-terms_of (tree_then claim claims) n h = (IsClosed-term_of claim n h.0, AreClosed-terms_of claims n h.1)
 
-pub closed_unset : IsClosedStore unset
-closed_unset number = tt
+pub closed_unset : (order : List ℕ) → IsClosedStore (unset order)
+closed_unset order number = tt
 
 closed_choice : (same : Bool) (term other : Tree ℕ) → IsClosed 0 term → IsClosed 0 other → IsClosed 0 (cond same term other)
 closed_choice true term other h k = h
@@ -50,17 +56,17 @@ closed_with store changed term closed h number = closed_choice (nat_eq number ch
 
 -- ---- types
 
--- each variable of a type has a term of that type
-abbrev pub FitsTypes : Records → NameTypes ℕ → Store → Type 0
-FitsTypes records types store = (number : ℕ) (t : ValueType) → types number ≡ Some t → IsTyped records types (store number) t
+-- each variable of a type has a term of that type over the symbols
+abbrev pub FitsTypes : Records → NameTypes ℕ → NameTypes ℕ → Store → Type 0
+FitsTypes records types symbols store = (number : ℕ) (t : ValueType) → types number ≡ Some t → IsTyped records symbols (store number) t
 
-module _ (records : Records) (types : NameTypes ℕ) (store : Store) (fits : FitsTypes records types store) where
-  same_type : (claim : Tree ℕ) (t : ValueType) → IsTyped records types claim t → IsTyped records types (term_of store claim) t
-      → type_of records types claim ≡ type_of records types (term_of store claim)
-  same_type claim t h k = type_of_typed records types claim t h ∙ sym (type_of_typed records types (term_of store claim) t k)
+module _ (records : Records) (types symbols : NameTypes ℕ) (store : Store) (fits : FitsTypes records types symbols store) where
+  same_type : (claim : Tree ℕ) (t : ValueType) → IsTyped records types claim t → IsTyped records symbols (term_of store claim) t
+      → type_of records types claim ≡ type_of records symbols (term_of store claim)
+  same_type claim t h k = type_of_typed records types claim t h ∙ sym (type_of_typed records symbols (term_of store claim) t k)
 
   mutual
-    pub IsTyped-term_of : (claim : Tree ℕ) (t : ValueType) → IsTyped records types claim t → IsTyped records types (term_of store claim) t
+    pub IsTyped-term_of : (claim : Tree ℕ) (t : ValueType) → IsTyped records types claim t → IsTyped records symbols (term_of store claim) t
     IsTyped-term_of (literal z) t h = h
     IsTyped-term_of (truth_literal b) t h = h
     IsTyped-term_of (name number) t h = fits number t h
@@ -70,12 +76,12 @@ module _ (records : Records) (types : NameTypes ℕ) (store : Store) (fits : Fit
     IsTyped-term_of (unary Unary.Size a) t h =
         let s = sequence_type (element_type (type_of records types a)) in
         let k = IsTyped-term_of a s h.1 in
-        (h.0, subst (λ u. IsTyped records types (term_of store a) (sequence_type (element_type u))) (same_type a s h.1 k) k)
+        (h.0, subst (λ u. IsTyped records symbols (term_of store a) (sequence_type (element_type u))) (same_type a s h.1 k) k)
     IsTyped-term_of (unary (Unary.Field n) a) t h =
         let s = type_of records types a in
         let k = IsTyped-term_of a s h.1 in
         let e = same_type a s h.1 k in
-        (subst (λ u. IsFieldType records n u t) e h.0, subst (λ u. IsTyped records types (term_of store a) u) e k)
+        (subst (λ u. IsFieldType records n u t) e h.0, subst (λ u. IsTyped records symbols (term_of store a) u) e k)
     IsTyped-term_of (binary Binary.Add a b) t h = (h.0, IsTyped-term_of a number_type h.1, IsTyped-term_of b number_type h.2)
     IsTyped-term_of (binary Binary.Sub a b) t h = (h.0, IsTyped-term_of a number_type h.1, IsTyped-term_of b number_type h.2)
     IsTyped-term_of (binary Binary.Mul a b) t h = (h.0, IsTyped-term_of a number_type h.1, IsTyped-term_of b number_type h.2)
@@ -88,7 +94,7 @@ module _ (records : Records) (types : NameTypes ℕ) (store : Store) (fits : Fit
         let s = type_of records types a in
         let k = IsTyped-term_of a s h.1 in
         let e = same_type a s h.1 k in
-        (h.0, subst (λ u. IsTyped records types (term_of store a) u) e k, subst (λ u. IsTyped records types (term_of store b) u) e (IsTyped-term_of b s h.2))
+        (h.0, subst (λ u. IsTyped records symbols (term_of store a) u) e k, subst (λ u. IsTyped records symbols (term_of store b) u) e (IsTyped-term_of b s h.2))
     IsTyped-term_of (binary Binary.Lt a b) t h = (h.0, IsTyped-term_of a number_type h.1, IsTyped-term_of b number_type h.2)
     IsTyped-term_of (binary Binary.Le a b) t h = (h.0, IsTyped-term_of a number_type h.1, IsTyped-term_of b number_type h.2)
     IsTyped-term_of (binary Binary.Read a i) t h = (IsTyped-term_of a (sequence_type t) h.0, IsTyped-term_of i number_type h.1)
@@ -96,22 +102,22 @@ module _ (records : Records) (types : NameTypes ℕ) (store : Store) (fits : Fit
         let s = type_of records types x in
         let k = IsTyped-term_of x s h.2 in
         let e = same_type x s h.2 k in
-        (h.0 ∙ ap sequence_type e, IsTyped-term_of a t h.1, subst (λ u. IsTyped records types (term_of store x) u) e k)
+        (h.0 ∙ ap sequence_type e, IsTyped-term_of a t h.1, subst (λ u. IsTyped records symbols (term_of store x) u) e k)
     IsTyped-term_of (update a i x) t h =
         let s = type_of records types x in
         let k = IsTyped-term_of x s h.3 in
         let e = same_type x s h.3 k in
-        (h.0 ∙ ap sequence_type e, IsTyped-term_of a t h.1, IsTyped-term_of i number_type h.2, subst (λ u. IsTyped records types (term_of store x) u) e k)
+        (h.0 ∙ ap sequence_type e, IsTyped-term_of a t h.1, IsTyped-term_of i number_type h.2, subst (λ u. IsTyped records symbols (term_of store x) u) e k)
     IsTyped-term_of (quantified q low high body) t h =
         (h.0, IsTyped-term_of low number_type h.1, IsTyped-term_of high number_type h.2, IsTyped-term_of body truth_type h.3)
     IsTyped-term_of (listed (sequence_of s) claims) t h = (h.0, h.1, EachIsTyped-terms_of claims s h.2)
     IsTyped-term_of (listed (record_of n) claims) t h = (h.0, h.1, AreTyped-terms_of claims (fields records n) h.2)
 
-    EachIsTyped-terms_of : (claims : Trees ℕ) (t : ValueType) → EachIsTyped records types claims t → EachIsTyped records types (terms_of store claims) t
+    EachIsTyped-terms_of : (claims : Trees ℕ) (t : ValueType) → EachIsTyped records types claims t → EachIsTyped records symbols (terms_of store claims) t
     EachIsTyped-terms_of no_trees t h = tt
     EachIsTyped-terms_of (tree_then claim claims) t h = (IsTyped-term_of claim t h.0, EachIsTyped-terms_of claims t h.1)
 
-    AreTyped-terms_of : (claims : Trees ℕ) (ts : List ValueType) → AreTyped records types claims ts → AreTyped records types (terms_of store claims) ts
+    AreTyped-terms_of : (claims : Trees ℕ) (ts : List ValueType) → AreTyped records types claims ts → AreTyped records symbols (terms_of store claims) ts
     AreTyped-terms_of no_trees [] h = tt
     AreTyped-terms_of no_trees (t ∷ ts) h = h
     AreTyped-terms_of (tree_then claim claims) [] h = h
@@ -119,35 +125,64 @@ module _ (records : Records) (types : NameTypes ℕ) (store : Store) (fits : Fit
 
 -- ---- typed stores
 
--- the terms are closed, and each variable has one of its type
-pub record IsTypedStore (variables : List Ty) (store : Store) : Type 0 where
+-- the terms are closed, and each variable has one of its type over the symbols
+pub record IsTypedStore (variables types : List Ty) (store : Store) : Type 0 where
   pub closed : IsClosedStore store
-  pub fits : FitsTypes no_records (variable_names variables) store
-
-pub typed_unset : (variables : List Ty) → IsTypedStore variables unset
-typed_unset variables = record { closed = closed_unset; fits = λ number t h. h }
-
-pub typed_term : (variables : List Ty) (store : Store) (t : ValueType) (claim : Tree ℕ) → IsTypedStore variables store → IsOfType variables t claim → IsOfType variables t (term_of store claim)
-typed_term variables store t claim typed h = record {
-  typed = IsTyped-term_of no_records (variable_names variables) store typed.fits claim t h.typed;
-  closed = IsClosed-term_of store typed.closed claim 0 h.closed;
-}
+  pub fits : FitsTypes no_records (variable_names variables) (variable_names types) store
 
 pub some_inj : {A : Type 0} {s t : A} → Some s ≡ Some t → s ≡ t
 some_inj e = cc
 
-fits_choice : (variables : List Ty) (same : Bool) (changed number : ℕ) (term other : Tree ℕ) (ty : Ty) (t : ValueType) → nat_eq number changed ≡ same
-    → slice_get variables changed ≡ Some ty → IsTyped no_records (variable_names variables) term (value_type ty) → variable_names variables number ≡ Some t
-    → IsTyped no_records (variable_names variables) other t → IsTyped no_records (variable_names variables) (cond same term other) t
-fits_choice variables true changed number term other ty t e is h known k =
+-- a variable of a known type is one of the variables
+pub type_known : (variables : List Ty) (number : ℕ) (t : ValueType) → variable_names variables number ≡ Some t
+    → (number < length variables) × (variable_names variables number ≡ Some (value_type (get_or variables number ty.Unit)))
+type_known variables number t known = by_test (slice_get variables number) refl known where
+  by_test : (found : Option Ty) → slice_get variables number ≡ found → known_type found ≡ Some t
+      → (number < length variables) × (variable_names variables number ≡ Some (value_type (get_or variables number ty.Unit)))
+  by_test None e k = absurd (cc)
+  by_test (Some found) e k = (slice_get_within variables number found e, ap known_type (e ∙ ap Some (sym (get_or_from_slice_get variables number found ty.Unit e))))
+
+-- the type of a symbol is that of its variable
+pub symbol_type : (variables : List Ty) (order : List ℕ) (place past : ℕ) → place < length order
+    → variable_names (symbol_types variables order) place ≡ Some (value_type (get_or variables (get_or order place past) ty.Unit))
+symbol_type variables order place past within =
+    ap known_type
+    (slice_get-map (λ variable. get_or variables variable ty.Unit) order place
+    ∙ ap (option_map (λ variable. get_or variables variable ty.Unit)) (slice_get-get_or order place past within))
+
+pub typed_unset : (variables : List Ty) (items : List ItemTree)
+    → IsTypedStore variables (symbol_types variables (symbol_order (length variables) items)) (unset (symbol_order (length variables) items))
+typed_unset variables items =
+    let order = symbol_order (length variables) items in
+    record {
+      closed = closed_unset order;
+      fits = λ number t known.
+          let is = type_known variables number t known in
+          let there = symbol_there order number (all_symbols (length variables) items number is.0) in
+          symbol_type variables order (symbol_of order number) 0 there.0
+          ∙ ap (λ variable. Some (value_type (get_or variables variable ty.Unit))) (there.1 0)
+          ∙ sym is.1
+          ∙ known;
+    }
+
+pub typed_term : (variables types : List Ty) (store : Store) (t : ValueType) (claim : Tree ℕ) → IsTypedStore variables types store → IsOfType variables t claim → IsOfType types t (term_of store claim)
+typed_term variables types store t claim typed h = record {
+  typed = IsTyped-term_of no_records (variable_names variables) (variable_names types) store typed.fits claim t h.typed;
+  closed = IsClosed-term_of store typed.closed claim 0 h.closed;
+}
+
+fits_choice : (variables types : List Ty) (same : Bool) (changed number : ℕ) (term other : Tree ℕ) (ty : Ty) (t : ValueType) → nat_eq number changed ≡ same
+    → slice_get variables changed ≡ Some ty → IsTyped no_records (variable_names types) term (value_type ty) → variable_names variables number ≡ Some t
+    → IsTyped no_records (variable_names types) other t → IsTyped no_records (variable_names types) (cond same term other) t
+fits_choice variables types true changed number term other ty t e is h known k =
     let here = ap (variable_names variables) ((Decides-eqb number changed).0 e) in
-    subst (λ u. IsTyped no_records (variable_names variables) term u) (some_inj (sym (ap known_type is) ∙ sym here ∙ known)) h
-fits_choice variables false changed number term other ty t e is h known k = k
+    subst (λ u. IsTyped no_records (variable_names types) term u) (some_inj (sym (ap known_type is) ∙ sym here ∙ known)) h
+fits_choice variables types false changed number term other ty t e is h known k = k
 
 -- a store stays typed where a variable gets a term of its type
-pub typed_with : (variables : List Ty) (store : Store) (changed : ℕ) (term : Tree ℕ) (ty : Ty) → IsTypedStore variables store → slice_get variables changed ≡ Some ty
-    → IsOfType variables (value_type ty) term → IsTypedStore variables (with_term store changed term)
-typed_with variables store changed term ty typed is h = record {
+pub typed_with : (variables types : List Ty) (store : Store) (changed : ℕ) (term : Tree ℕ) (ty : Ty) → IsTypedStore variables types store → slice_get variables changed ≡ Some ty
+    → IsOfType types (value_type ty) term → IsTypedStore variables types (with_term store changed term)
+typed_with variables types store changed term ty typed is h = record {
   closed = closed_with store changed term typed.closed h.closed;
-  fits = λ number t known. fits_choice variables (nat_eq number changed) changed number term (store number) ty t refl is h.typed known (typed.fits number t known);
+  fits = λ number t known. fits_choice variables types (nat_eq number changed) changed number term (store number) ty t refl is h.typed known (typed.fits number t known);
 }

@@ -4,5 +4,6 @@ pub mod Legs
 pub mod Runs
 pub mod Sequents
 pub mod Store
+pub mod Symbols
 pub mod Typed
 pub mod Values

@@ -1,15 +1,16 @@
 -- Terms in place of variables, and the size of a term.
-use Rattle.std.specs.Prelude.{ℕ, nat_eq, nat_le, Bool, ◌&&◌, if◌then◌else◌}
+use Rattle.std.specs.Prelude.{ℕ, nat_eq, nat_le, Bool, ◌&&◌, List, if◌then◌else◌}
 use Rattle.slang_values.specs.Tree.{Tree, literal, truth_literal, name, bound, unary, binary, update, quantified, listed, Trees, no_trees, tree_then}
 use Rattle.slang_values.specs.Measure.{node_count, height}
+use Rattle.method_runs.specs.Symbols.{symbol_of}
 
 -- the terms of variables by number, over symbols by number
 abbrev pub Store : Type 0
 Store = ℕ → Tree ℕ
 
--- A variable that no item of the leg has set is the symbol of its number.
-abbrev pub unset : Store
-unset number = name number
+-- A variable that no item of the leg has set is its symbol.
+abbrev pub unset : List ℕ → Store
+unset order number = name (symbol_of order number)
 
 -- the store, but that this variable has this term
 abbrev pub with_term : Store → ℕ → Tree ℕ → Store

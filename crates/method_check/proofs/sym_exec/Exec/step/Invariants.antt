@@ -7,6 +7,7 @@ abbrev pub invariant-items : goal.invariant-items
 invariant-items l = record {
   left : pending l.fn.self l.leg ≡ pending l.self l.leg;
   same : l.self.end ≡ l.fn.self.end;
+  types : l.self.types ≡ l.fn.self.types;
 }
 
 abbrev pub decreases-items : goal.decreases-items
