@@ -13,9 +13,9 @@ use Rattle.lk_ast.specs.declared.check.Item.{Item}
 use Rattle.lk_ast.specs.declared.check.Leg.{Leg}
 use Rattle.lk_ast.specs.declared.typed.Ty.{Ty}
 use Rattle.lk_ast.specs.LegTree.{ItemTree, check, item_tree, leg_items}
-use Rattle.method_runs.specs.Symbols.{symbol_types}
+use Rattle.method_runs.specs.Symbols.{symbol_order, symbol_types}
 use Rattle.method_runs.specs.Store.{Store, unset, term_of, is_small}
-use Rattle.method_runs.specs.Sequents.{Obligation, sequent, to_show, too_large, obligations_from}
+use Rattle.method_runs.specs.Sequents.{Obligation, sequent, to_show, too_large, obligations_from, obligations}
 use Rattle.method_runs.proofs.Stores.{AreSame, same_left}
 use Rattle.closing.specs.Closing.{closing}
 use Rattle.method_check.specs.Answers.{first_unproved, reason_of, unproved, unproved_by}
@@ -66,9 +66,10 @@ pub with_types : (types : List Ty) (exec : Exec) (leg : Leg) → exec.types ≡ 
 with_types types exec leg same = ap (λ ts. obligations_from ts exec.at (store_of exec.terms) (map tree exec.facts) (drop exec.at (leg_items leg))) (sym same)
 
 -- all obligations of a leg are to come at its beginning
-pub starts : (exec : Exec) (leg : Leg) (order : List ℕ) → exec.at ≡ 0 → exec.facts ≡ [] → exec.types ≡ symbol_types leg.vars order → AreSame (store_of exec.terms) (unset order)
-    → pending exec leg ≡ obligations_from (symbol_types leg.vars order) 0 (unset order) [] (leg_items leg)
-starts exec leg order at facts types same =
+pub starts : (exec : Exec) (leg : Leg) → exec.at ≡ 0 → exec.facts ≡ [] → exec.types ≡ symbol_types leg.vars (symbol_order (length leg.vars) (leg_items leg))
+    → AreSame (store_of exec.terms) (unset (symbol_order (length leg.vars) (leg_items leg))) → pending exec leg ≡ obligations leg.vars (leg_items leg)
+starts exec leg at facts types same =
+    let order = symbol_order (length leg.vars) (leg_items leg) in
     ap (λ n. obligations_from exec.types n (store_of exec.terms) (map tree exec.facts) (drop n (leg_items leg))) at
     ∙ ap (λ fs. obligations_from exec.types 0 (store_of exec.terms) (map tree fs) (leg_items leg)) facts
     ∙ ap (λ ts. obligations_from ts 0 (store_of exec.terms) [] (leg_items leg)) types

@@ -14,7 +14,7 @@ ghost use Rattle.method_check.specs.declared.sym_exec.ExecEnd.{ExecEnd as End};
 use crate::measure::is_small;
 use crate::sorts::sorts_of;
 use crate::store::{copies, set, term_of};
-use crate::symbols::{number, symbol_order, symbol_types, symbols};
+use crate::symbols::{initial_terms, number, symbol_order, symbol_types};
 use lk_ast::{Claim, Item, Kind, Leg, Ty};
 use lk_terms::{Sequent, Term};
 use sqlite_items::Items;
@@ -70,7 +70,7 @@ impl Exec {
     {
         let order = symbol_order(alloc, leg)?;
         let types = symbol_types(alloc, leg.vars.as_slice(), order.as_slice())?;
-        let terms = symbols(alloc, leg.vars.len(), &order)?;
+        let terms = initial_terms(alloc, leg.vars.len(), &order)?;
         Ok(Exec {
             alloc,
             at: 0,

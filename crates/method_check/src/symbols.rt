@@ -14,7 +14,7 @@ use std::alloc::{AllocError, Global};
 
 /// Variables below a count, in the order in which they were first added.
 #[derive(Drop)]
-struct Symbols {
+struct Reading {
     count: usize,
     order: IndexSet<u32>,
 }
@@ -26,7 +26,7 @@ pub fn number(count: usize) -> Result<u32, AllocError>
     u32::try_from(count).map_err(|_| AllocError)
 }
 
-impl Symbols {
+impl Reading {
     /// Adds a variable, unless it is there.
     fn add(&mut self, variable: u32) -> Result<(), AllocError>
         ensures order { OnOk result (self.new.order.keys ≡ with_next self.old.count self.old.order.keys variable) }
@@ -61,21 +61,21 @@ impl Symbols {
 pub fn symbol_order(alloc: Global, leg: &Leg) -> Result<IndexSet<u32>, AllocError>
     ensures { IfOk result (λ it. it.keys ≡ symbol_order (length leg.now.vars) (leg_items leg.now)) }
 {
-    let mut symbols = Symbols {
+    let mut reading = Reading {
         count: leg.vars.len(),
         order: IndexSet::new(alloc),
     };
     for item in leg.items.as_slice() {
         match item {
-            Item::Assume(claim) => symbols.read(claim)?,
-            Item::Check(_, claim) => symbols.read(claim)?,
-            Item::Set(_, claim) => symbols.read(claim)?,
+            Item::Assume(claim) => reading.read(claim)?,
+            Item::Check(_, claim) => reading.read(claim)?,
+            Item::Set(_, claim) => reading.read(claim)?,
         }
     }
     for variable in 0..leg.vars.len() {
-        symbols.add(number(variable)?)?;
+        reading.add(number(variable)?)?;
     }
-    Ok(symbols.order)
+    Ok(reading.order)
 }
 
 /// The types of the symbols of variables.
@@ -91,7 +91,7 @@ pub fn symbol_types(alloc: Global, variables: &[Ty], order: &[u32]) -> Result<It
 }
 
 /// The terms of a count of variables before any is set: their symbols.
-pub fn symbols(alloc: Global, count: usize, order: &IndexSet<u32>) -> Result<Items<Term>, AllocError>
+pub fn initial_terms(alloc: Global, count: usize, order: &IndexSet<u32>) -> Result<Items<Term>, AllocError>
     ensures { IfOk result (λ it. map tree it ≡ map (unset order.now.keys) (range_with_len 0 count)) }
 {
     let mut terms = Items::new(alloc);
