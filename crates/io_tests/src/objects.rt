@@ -138,5 +138,10 @@ fn streams_of_std_are_read_and_written(rt: HostRuntime) -> Result<(), Fail> {
     let mut sink = StdSink::new(Flaky { calls: 0 });
     let answers = gives(alloc, &mut sink, &["ab", "ab", "ab", "ab", ""])?;
     assert_eq!(rt; answers.as_str(), "1 ! 1 ! 0 ");
+
+    // A flush reaches the stream. One that is broken off is made again.
+    let mut sink = StdSink::new(Flaky { calls: 0 });
+    let answers = gives(alloc, &mut sink, &["", ""])?;
+    assert_eq!(rt; answers.as_str(), "0 ! ");
     Ok(())
 }

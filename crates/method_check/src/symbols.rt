@@ -91,7 +91,11 @@ pub fn symbol_types(alloc: Global, variables: &[Ty], order: &[u32]) -> Result<It
 }
 
 /// The terms of a count of variables before any is set: their symbols.
-pub fn initial_terms(alloc: Global, count: usize, order: &IndexSet<u32>) -> Result<Items<Term>, AllocError>
+pub fn initial_terms(
+    alloc: Global,
+    count: usize,
+    order: &IndexSet<u32>,
+) -> Result<Items<Term>, AllocError>
     ensures { IfOk result (λ it. map tree it ≡ map (unset order.now.keys) (range_with_len 0 count)) }
 {
     let mut terms = Items::new(alloc);

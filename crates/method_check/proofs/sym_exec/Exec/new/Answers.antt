@@ -15,9 +15,9 @@ returns-clause-start c =
     let leg = c.args.leg.now in
     let order = symbol_order (length leg.vars) (leg_items leg) in
     let types : c.in_ok-types.types ≡ symbol_types leg.vars order =
-        c.in_ok-types.ensures ∙ ap (λ vars. symbol_types vars c.as_slice-2.result.now) c.as_slice.ensures ∙ ap (symbol_types leg.vars) (c.as_slice-2.ensures.keys ∙ c.in_ok-order.ensures) in
+    c.in_ok-types.ensures ∙ ap (λ vars. symbol_types vars c.as_slice-2.result.now) c.as_slice.ensures ∙ ap (symbol_types leg.vars) (c.as_slice-2.ensures.keys ∙ c.in_ok-order.ensures) in
     let terms : map tree c.in_ok-terms.terms ≡ map (unset order) (range_with_len 0 (length leg.vars)) =
-        c.in_ok-terms.ensures ∙ ap (λ keys. map (unset keys) (range_with_len 0 c.len.result)) c.in_ok-order.ensures ∙ ap (λ n. map (unset order) (range_with_len 0 n)) c.len.ensures in
+    c.in_ok-terms.ensures ∙ ap (λ keys. map (unset keys) (range_with_len 0 c.len.result)) c.in_ok-order.ensures ∙ ap (λ n. map (unset order) (range_with_len 0 n)) c.len.ensures in
     let exec : Exec = record { alloc = c.args.alloc; at = 0; types = c.in_ok-types.types; terms = c.in_ok-terms.terms; facts = c.new.result; end = None } in
     starts exec leg refl c.new.ensures types (same_beginning (length leg.vars) (leg_items leg) c.in_ok-terms.terms terms)
 
@@ -26,5 +26,5 @@ returns-clause-types c = λ all.
     let leg = c.args.leg.now in
     let order = symbol_order (length leg.vars) (leg_items leg) in
     let types : c.in_ok-types.types ≡ symbol_types leg.vars order =
-        c.in_ok-types.ensures ∙ ap (λ vars. symbol_types vars c.as_slice-2.result.now) c.as_slice.ensures ∙ ap (symbol_types leg.vars) (c.as_slice-2.ensures.keys ∙ c.in_ok-order.ensures) in
+    c.in_ok-types.ensures ∙ ap (λ vars. symbol_types vars c.as_slice-2.result.now) c.as_slice.ensures ∙ ap (symbol_types leg.vars) (c.as_slice-2.ensures.keys ∙ c.in_ok-order.ensures) in
     subst (λ ts. All IsVariableType ts) (sym types) (typed_symbols leg.vars (leg_items leg) all)
