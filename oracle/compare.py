@@ -15,8 +15,8 @@ from functools import cache, reduce
 sys.dont_write_bytecode = True      # leaves no folder of compiled files behind
 
 import oracle                                   # noqa: E402
-from closing import NumberedRow, eliminate      # noqa: E402
-from reading import ARROWS, LEVELS              # noqa: E402
+from closer import NumberedRow, eliminate       # noqa: E402
+from text import ARROWS                         # noqa: E402
 
 PROGRAM = pathlib.Path(__file__).resolve().parent.parent / "logika"
 SECONDS = 120
@@ -24,6 +24,9 @@ SECONDS = 120
 # An expression to be written: an atom as text, or an operator with its one or two operands.
 Tree = str | tuple
 
+# The operators that the program reads, from the loosest level to the tightest.
+LEVELS = [("__>:", "___>:"), ("|",), ("&",), ("==", "!="), ("<", "<=", ">", ">="), ("+", "-", "->:", "-->:"),
+          ("*", "/", "%")]
 LEVEL = {operator: level for level, operators in enumerate(LEVELS) for operator in operators}
 COMPARISONS = ["<=", "<", ">=", ">"]
 LIMIT = 1 << 60

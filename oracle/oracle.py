@@ -1,10 +1,14 @@
 #!/usr/bin/env python3
 """What `logika check` should print for a text, and its exit status, computed from the rules alone.
 
-This is an independent reading of the rules of docs/LANGUAGE.md and docs/PROVING.md, and of the limits in README.md.
-It shares no text with the proved crates and is not part of the gate. It is used to find definitions that say something
-else than is meant: where it and the program differ, one of the two reads a rule wrongly. `reading.py` has the rules of
-the language, `closing.py` those of the prover, and `compare.py` runs this and the program on random texts.
+This is an independent reading of the rules, written from their statement and not from the definitions of the proved crates, with
+which it shares no text. It is no part of the gate. It is used to find definitions that say something else than is meant: where
+it and the program differ, one of the two reads a rule wrongly.
+
+It reads the whole language already: `text.py` has tokens, grammar and first faults, `trees.py` the trees, `names.py` the rules of names
+and types, `program.py` the typed program, `legs.py` legs, sequents and verdicts, `terms.py` and `closer.py` the prover, `proofs.py`
+deduction, `runs.py` runs, and `whole.py` the report on a project. The program does not read all of it yet, so `check` here refuses what
+the program refuses. `compare.py` runs both on random texts.
 
     oracle/oracle.py < text
 """
@@ -13,11 +17,32 @@ import sys
 sys.dont_write_bytecode = True      # leaves no folder of compiled files behind
 sys.setrecursionlimit(1_000_000)    # the terms of long sums are high
 
-from closing import failure_of      # noqa: E402
-from reading import LeftOut, read   # noqa: E402
+import trees                        # noqa: E402
+from text import TextFault          # noqa: E402
+from trees import Expr, Method      # noqa: E402
+from whole import report            # noqa: E402
 
 TEXT_LIMIT = 67_108_864
 LINE_LIMIT = 1_048_576
+LEFT_OUT_YET = {"apply", "update", "field", "ISZ", "In", "Old", "All", "Exists", "&&", "||", ":+"}
+
+
+def is_read(expr: Expr) -> bool:
+    """Whether the program reads the forms of an expression."""
+    return expr.op not in LEFT_OUT_YET and (expr.op != "Res" or expr.type is None) and all(is_read(it) for it in expr.parts)
+
+
+def is_of_today(declarations: list) -> bool:
+    """Whether the program reads the forms of a text: one method at most, with values, assertions and a result."""
+    if not declarations:
+        return True
+    method = declarations[0]
+    if len(declarations) > 1 or not isinstance(method, Method) or method.modifies:
+        return False
+    types = [type_ for _, type_ in method.params] + [method.result] + [it.type for it in method.body if it.type]
+    values = method.requires + method.ensures + [it.value for it in method.body]
+    return (all(type_.word in ("Z", "B", "Unit") for type_ in types)
+            and all(it.kind in ("val", "assert", "return") for it in method.body) and all(is_read(it) for it in values))
 
 
 def check(data: bytes) -> tuple[str, int]:
@@ -25,16 +50,10 @@ def check(data: bytes) -> tuple[str, int]:
     if len(data) > TEXT_LIMIT or any(len(line) > LINE_LIMIT for line in data.split(b"\n")):
         return "", 8
     try:
-        method = read(data)
-    except LeftOut:
-        return "revision 1\n-:1:1 E14 form left out\n", 2
-    if method is None:
-        return "revision 1\nmethods 0 verified 0\n", 0
-    failure = failure_of(method)
-    if failure is None:
-        return f"revision 1\n{method.name} verified\nmethods 1 verified 1\n", 0
-    (line, column), kind, reason = failure
-    return f"revision 1\n{method.name} unproved -:{line}:{column} {kind} {reason}\nmethods 1 verified 0\n", 1
+        output, status = report([("-", data)]) if is_of_today(trees.read(data)) else ("", 2)
+    except TextFault:
+        status = 2
+    return (output, status) if status != 2 else ("revision 1\n-:1:1 E14 form left out\n", 2)
 
 
 def main() -> int:
