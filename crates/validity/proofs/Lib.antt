@@ -1,0 +1,4 @@
+pub mod TypeOf
+pub mod Closed
+pub mod Binds
+pub mod Validity

@@ -1,0 +1,4 @@
+pub mod Validity
+pub mod OneProof
+pub mod Bind
+pub mod Laws
