@@ -1,0 +1,5 @@
+pub mod Operators
+pub mod Claims
+pub mod Programs
+pub mod Variables
+pub mod Legs
