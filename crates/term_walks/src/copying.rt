@@ -1,8 +1,9 @@
-ghost use Rattle.std.specs.Prelude.{◌≡◌, IfOk, map};
+ghost use Rattle.std.specs.Prelude.{◌≡◌, ◌++◌, IfOk, OnOk, map};
 ghost use Rattle.slang_values.specs.Tree.{binary, update, quantified};
 ghost use Rattle.term_trees.specs.Term.{tree};
 
 use crate::NoMemory;
+use owned_results::{all_three, both};
 use slang_values::{Binary, Quantifier};
 use sqlite_items::Items;
 use std::alloc::Global;
@@ -23,7 +24,10 @@ pub fn copy(alloc: Global, term: &Term) -> Result<Term, NoMemory>
         Shape::Binary(op, a, b) => copy_binary(alloc, a, b, op),
         Shape::Update(a, i, x) => copy_update(alloc, a, i, x),
         Shape::Quantified(q, low, high, body) => copy_quantified(alloc, low, high, body, q),
-        Shape::Sequence(s, ts) => Ok(Term::SeqLit(s.copy(alloc)?, copy_all(alloc, ts)?)),
+        Shape::Sequence(s, ts) => {
+            let (sort, parts) = both(s.copy(alloc), copy_all(alloc, ts))?;
+            Ok(Term::SeqLit(sort, parts))
+        }
         Shape::Record(n, ts) => Ok(Term::Rec(n, copy_all(alloc, ts)?)),
     }
 }
@@ -32,8 +36,7 @@ pub fn copy(alloc: Global, term: &Term) -> Result<Term, NoMemory>
 fn copy_binary(alloc: Global, a: &Term, b: &Term, op: Binary) -> Result<Term, NoMemory>
     ensures { IfOk result (λ t. tree t ≡ binary op (tree a.now) (tree b.now)) }
 {
-    let a = copy(alloc, a)?;
-    let b = copy(alloc, b)?;
+    let (a, b) = both(copy(alloc, a), copy(alloc, b))?;
     Term::binary(alloc, op, a, b)
 }
 
@@ -41,9 +44,7 @@ fn copy_binary(alloc: Global, a: &Term, b: &Term, op: Binary) -> Result<Term, No
 fn copy_update(alloc: Global, a: &Term, i: &Term, x: &Term) -> Result<Term, NoMemory>
     ensures { IfOk result (λ t. tree t ≡ update (tree a.now) (tree i.now) (tree x.now)) }
 {
-    let a = copy(alloc, a)?;
-    let i = copy(alloc, i)?;
-    let x = copy(alloc, x)?;
+    let (a, i, x) = all_three(copy(alloc, a), copy(alloc, i), copy(alloc, x))?;
     Term::update(alloc, a, i, x)
 }
 
@@ -57,9 +58,7 @@ fn copy_quantified(
 ) -> Result<Term, NoMemory>
     ensures { IfOk result (λ t. tree t ≡ quantified quantifier (tree low.now) (tree high.now) (tree body.now)) }
 {
-    let low = copy(alloc, low)?;
-    let high = copy(alloc, high)?;
-    let body = copy(alloc, body)?;
+    let (low, high, body) = all_three(copy(alloc, low), copy(alloc, high), copy(alloc, body))?;
     Term::quantified(alloc, quantifier, low, high, body)
 }
 
@@ -69,8 +68,18 @@ fn copy_all(alloc: Global, terms: &[Term]) -> Result<Items<Term>, NoMemory>
     ensures { IfOk result (λ ts. map tree ts ≡ map tree terms.now) }
 {
     let mut copies = Items::new(alloc);
+    add_copies(alloc, &mut copies, terms)?;
+    Ok(copies)
+}
+
+/// Adds copies of the terms.
+#[cycle(copy)]
+#[tactic(auto, using(term_trees::proofs::Sizes::deepest_lines))]
+fn add_copies(alloc: Global, copies: &mut Items<Term>, terms: &[Term]) -> Result<(), NoMemory>
+    ensures { OnOk result (map tree copies.new ≡ map tree copies.old ++ map tree terms.now) }
+{
     for term in terms {
         copies.push(copy(alloc, term)?)?;
     }
-    Ok(copies)
+    Ok(())
 }
