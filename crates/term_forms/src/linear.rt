@@ -1,17 +1,18 @@
-ghost use Rattle.std.specs.Prelude.{◌≡◌, IfOk, IfErr, IsErrOf, OnOk, true, false};
+ghost use Rattle.std.specs.Prelude.{◌≡◌, [], IfOk, IfErr, IsErrOf, OnOk, true, false};
 ghost use Rattle.slang_values.specs.Tree.{unary, binary, update, quantified};
 ghost use Rattle.tree_forms.specs.Form as forms;
 ghost use Rattle.tree_forms.specs.Laws.{HasValueOf, IsInOrder};
 ghost use Rattle.term_trees.specs.Term.{tree, trees};
-ghost use Rattle.term_forms.specs.declared.form.FormEnd.TheVariants.{Wide};
+ghost use Rattle.term_forms.specs.declared.form.FormEnd.TheVariants.{Wide, NoMemory};
 ghost use Rattle.term_forms.specs.Form.{form_of, IsFormOf, IsTermOf, AreTermsOf, IsEndOf, AreEndsOf};
 
 use crate::form::{Form, FormEnd};
 use crate::operators::{binary_form, unary_form};
+use owned_results::{all_three, both};
 use slang_values::{Binary, Quantifier, Unary};
 use sqlite_items::{Boxed, Items};
 use std::alloc::Global;
-use term_trees::{Shape, Term};
+use term_trees::{Shape, Sort, Term};
 
 /// The linear form of a term. Of a term that is no number it is the term alone, as an atom with canonical parts.
 pub fn linear_form(alloc: Global, term: &Term) -> Result<Form, FormEnd>
@@ -41,8 +42,7 @@ fn form_of_term(alloc: Global, term: &Term) -> Result<Form, FormEnd>
         Shape::Update(a, i, x) => form_of_update(alloc, a, i, x),
         Shape::Quantified(q, low, high, body) => form_of_quantified(alloc, low, high, body, q),
         Shape::Sequence(s, ts) => {
-            let sort = s.copy(alloc)?;
-            let parts = canonical_terms(alloc, ts)?;
+            let (sort, parts) = both(copy_of_sort(alloc, s), canonical_terms(alloc, ts))?;
             Ok(Form::of_atom(alloc, Term::SeqLit(sort, parts))?)
         }
         Shape::Record(n, ts) => {
@@ -68,8 +68,7 @@ fn form_of_binary(alloc: Global, a: &Term, b: &Term, op: Binary) -> Result<Form,
     ensures form { IfOk result (λ f. IsFormOf (binary op (tree a.now) (tree b.now)) (form_of f)) }
     ensures end { IfErr result (λ e. IsEndOf (binary op (tree a.now) (tree b.now)) e) }
 {
-    let left = form_of_term(alloc, a)?;
-    let right = form_of_term(alloc, b)?;
+    let (left, right) = both(form_of_term(alloc, a), form_of_term(alloc, b))?;
     binary_form(alloc, op, left, right)?.narrowed()
 }
 
@@ -79,9 +78,11 @@ fn form_of_update(alloc: Global, a: &Term, i: &Term, x: &Term) -> Result<Form, F
     ensures form { IfOk result (λ f. IsFormOf (update (tree a.now) (tree i.now) (tree x.now)) (form_of f)) }
     ensures end { IfErr result (λ e. IsEndOf (update (tree a.now) (tree i.now) (tree x.now)) e) }
 {
-    let a = canonical_term(alloc, a)?;
-    let i = canonical_term(alloc, i)?;
-    let x = canonical_term(alloc, x)?;
+    let (a, i, x) = all_three(
+        canonical_term(alloc, a),
+        canonical_term(alloc, i),
+        canonical_term(alloc, x),
+    )?;
     Ok(Form::of_atom(alloc, Term::Update(a, i, x))?)
 }
 
@@ -98,9 +99,11 @@ fn form_of_quantified(
         (λ f. IsFormOf (quantified quantifier (tree low.now) (tree high.now) (tree body.now)) (form_of f)) }
     ensures end { IfErr result (λ e. IsEndOf (quantified quantifier (tree low.now) (tree high.now) (tree body.now)) e) }
 {
-    let low = canonical_term(alloc, low)?;
-    let high = canonical_term(alloc, high)?;
-    let body = canonical_term(alloc, body)?;
+    let (low, high, body) = all_three(
+        canonical_term(alloc, low),
+        canonical_term(alloc, high),
+        canonical_term(alloc, body),
+    )?;
     Ok(Form::of_atom(alloc, quantified_term(quantifier, low, high, body))?)
 }
 
@@ -137,9 +140,32 @@ fn canonical_terms(alloc: Global, terms: &[Term]) -> Result<Items<Term>, FormEnd
     ensures end { IfErr result (λ e. AreEndsOf (trees terms.now) e) }
 {
     let mut parts = Items::new(alloc);
+    add_canonical_terms(alloc, &mut parts, terms)?;
+    Ok(parts)
+}
+
+/// Adds the terms of the terms' forms to none.
+#[cycle(form)]
+#[tactic(auto, using(term_trees::proofs::Sizes::deepest_lines, crate::proofs::Forms::form_lines))]
+fn add_canonical_terms(
+    alloc: Global,
+    parts: &mut Items<Term>,
+    terms: &[Term],
+) -> Result<(), FormEnd>
+    requires { parts.old ≡ [] }
+    ensures terms { OnOk result (AreTermsOf (trees terms.now) (trees parts.new)) }
+    ensures end { IfErr result (λ e. AreEndsOf (trees terms.now) e) }
+{
     for term in terms {
         let form = form_of_term(alloc, term)?;
         parts.push(form.into_term(alloc)?)?;
     }
-    Ok(parts)
+    Ok(())
+}
+
+fn copy_of_sort(alloc: Global, sort: &Sort) -> Result<Sort, FormEnd>
+    ensures same { IfOk result (λ s. s ≡ sort.now) }
+    ensures end { IfErr result (λ e. e ≡ NoMemory) }
+{
+    Ok(sort.copy(alloc)?)
 }

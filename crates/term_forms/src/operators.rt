@@ -7,6 +7,7 @@ ghost use Rattle.term_forms.specs.Form.{form_of, HasRoom};
 use crate::form::Form;
 use crate::terms::form_term;
 use crate::{NoMemory, numbers};
+use owned_results::both;
 use slang_values::{Binary, Unary};
 use std::alloc::{AllocError, Global};
 use std::cmp::Ordering;
@@ -70,9 +71,7 @@ fn two_terms(alloc: Global, left: Form, right: Form) -> Result<(Term, Term), All
     ensures first { IfOk result (λ p. tree p.0 ≡ forms.form_term (form_of left)) }
     ensures second { IfOk result (λ p. tree p.1 ≡ forms.form_term (form_of right)) }
 {
-    let a = left.into_term(alloc)?;
-    let b = right.into_term(alloc)?;
-    Ok((a, b))
+    both(left.into_term(alloc), right.into_term(alloc))
 }
 
 /// The form of a difference, from the forms of its parts.

@@ -1,4 +1,4 @@
-ghost use Rattle.std.specs.Prelude.{◌≡◌, IfOk, map, reverse, None};
+ghost use Rattle.std.specs.Prelude.{◌≡◌, ◌++◌, IfOk, OnOk, map, reverse, None};
 ghost use Rattle.std.specs.Option.{option_map};
 ghost use Rattle.tree_forms.specs.Form as forms;
 ghost use Rattle.term_trees.specs.Term.{tree};
@@ -46,6 +46,14 @@ fn copy_parts(alloc: Global, parts: &[Part]) -> Result<Vec<Part>, AllocError>
     ensures { IfOk result (λ v. map part_of v.items ≡ map part_of parts.now) }
 {
     let mut copies = Vec::new(alloc);
+    add_copies(alloc, &mut copies, parts)?;
+    Ok(copies)
+}
+
+/// Adds copies of the parts.
+fn add_copies(alloc: Global, copies: &mut Vec<Part>, parts: &[Part]) -> Result<(), AllocError>
+    ensures { OnOk result (map part_of copies.new.items ≡ map part_of copies.old.items ++ map part_of parts.now) }
+{
     for part in parts {
         let atom = copy(alloc, &part.atom)?;
         copies.push(Part {
@@ -53,7 +61,7 @@ fn copy_parts(alloc: Global, parts: &[Part]) -> Result<Vec<Part>, AllocError>
             times: part.times,
         })?;
     }
-    Ok(copies)
+    Ok(())
 }
 
 fn sum_of_parts(alloc: Global, parts: Vec<Part>) -> Result<Option<Term>, AllocError>
