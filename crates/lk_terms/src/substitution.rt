@@ -1,4 +1,4 @@
-ghost use Rattle.std.specs.Prelude.{◌≡◌, IfOk};
+ghost use Rattle.std.specs.Prelude.{◌≡◌, [], IfOk, OnOk};
 ghost use Rattle.slang_values.specs.Tree.{bound as bound_variable, binary, update, quantified};
 ghost use Rattle.slang_values.specs.Typing.{IsClosed};
 ghost use Rattle.term_trees.specs.Term.{tree, trees};
@@ -6,6 +6,7 @@ ghost use Rattle.lk_terms.specs.Substitution.{substituted, KeepsValues, Substitu
 
 use crate::NoMemory;
 use crate::place::next_place;
+use owned_results::{all_three, both};
 use slang_values::{Binary, Quantifier};
 use sqlite_items::Items;
 use std::alloc::Global;
@@ -44,7 +45,8 @@ fn substitute_at(
             substitute_quantified(alloc, low, high, body, place, by, q)
         }
         Shape::Sequence(s, ts) => {
-            Ok(Term::SeqLit(s.copy(alloc)?, substitute_all(alloc, ts, place, by)?))
+            let (sort, parts) = both(s.copy(alloc), substitute_all(alloc, ts, place, by))?;
+            Ok(Term::SeqLit(sort, parts))
         }
         Shape::Record(n, ts) => Ok(Term::Rec(n, substitute_all(alloc, ts, place, by)?)),
     }
@@ -83,8 +85,10 @@ fn substitute_binary(
 ) -> Result<Term, NoMemory>
     ensures { IfOk result (λ t. Substitutes place (tree by.now) (binary op (tree a.now) (tree b.now)) (tree t)) }
 {
-    let a = substitute_at(alloc, a, place, by)?;
-    let b = substitute_at(alloc, b, place, by)?;
+    let (a, b) = both(
+        substitute_at(alloc, a, place, by),
+        substitute_at(alloc, b, place, by),
+    )?;
     Term::binary(alloc, op, a, b)
 }
 
@@ -100,9 +104,11 @@ fn substitute_update(
 ) -> Result<Term, NoMemory>
     ensures { IfOk result (λ t. Substitutes place (tree by.now) (update (tree a.now) (tree i.now) (tree x.now)) (tree t)) }
 {
-    let a = substitute_at(alloc, a, place, by)?;
-    let i = substitute_at(alloc, i, place, by)?;
-    let x = substitute_at(alloc, x, place, by)?;
+    let (a, i, x) = all_three(
+        substitute_at(alloc, a, place, by),
+        substitute_at(alloc, i, place, by),
+        substitute_at(alloc, x, place, by),
+    )?;
     Term::update(alloc, a, i, x)
 }
 
@@ -120,9 +126,11 @@ fn substitute_quantified(
     ensures { IfOk result
         (λ t. Substitutes place (tree by.now) (quantified quantifier (tree low.now) (tree high.now) (tree body.now)) (tree t)) }
 {
-    let low = substitute_at(alloc, low, place, by)?;
-    let high = substitute_at(alloc, high, place, by)?;
-    let body = substitute_at(alloc, body, next_place(place), by)?;
+    let (low, high, body) = all_three(
+        substitute_at(alloc, low, place, by),
+        substitute_at(alloc, high, place, by),
+        substitute_at(alloc, body, next_place(place), by),
+    )?;
     Term::quantified(alloc, quantifier, low, high, body)
 }
 
@@ -137,8 +145,25 @@ fn substitute_all(
     ensures { IfOk result (λ ts. AllSubstitute place (tree by.now) (trees terms.now) (trees ts)) }
 {
     let mut parts = Items::new(alloc);
+    add_substituted(alloc, &mut parts, terms, place, by)?;
+    Ok(parts)
+}
+
+/// Adds the terms with `by` in place of the variable to none.
+#[cycle(substitute)]
+#[tactic(auto, using(term_trees::proofs::Sizes::deepest_lines, crate::proofs::Substituting::substitute_lines))]
+fn add_substituted(
+    alloc: Global,
+    parts: &mut Items<Term>,
+    terms: &[Term],
+    place: Option<u32>,
+    by: &Term,
+) -> Result<(), NoMemory>
+    requires { parts.old ≡ [] }
+    ensures { OnOk result (AllSubstitute place (tree by.now) (trees terms.now) (trees parts.new)) }
+{
     for term in terms {
         parts.push(substitute_at(alloc, term, place, by)?)?;
     }
-    Ok(parts)
+    Ok(())
 }
