@@ -1,0 +1,2 @@
+pub mod SubstitutionKeepsValues
+pub mod Substitutions
