@@ -45,7 +45,7 @@ fn compare_parts(a: &Term, b: &Term) -> Ordering
 }
 
 /// What a term is without its parts.
-fn compare_heads(a: &Term, b: &Term) -> Ordering
+pub fn compare_heads(a: &Term, b: &Term) -> Ordering
     ensures { result ≡ order.head_cmp (order.head (tree a.now)) (order.head (tree b.now)) }
 {
     kind(a)

@@ -5,7 +5,7 @@ mod comparing;
 mod copying;
 mod measuring;
 
-pub use comparing::compare;
+pub use comparing::{compare, compare_heads};
 pub use copying::copy;
 pub use measuring::{TermSize, measure};
 
