@@ -1,4 +1,4 @@
-ghost use Rattle.std.specs.Prelude.{◌≡◌, map, IfOk};
+ghost use Rattle.std.specs.Prelude.{◌≡◌, ◌++◌, map, IfOk, OnOk};
 ghost use Rattle.slang_values.specs.Tree.{binary, update, quantified};
 ghost use Rattle.tree_forms.specs.Canonical.{canonical as canonical_of, canonical_number as canonical_number_of};
 ghost use Rattle.term_trees.specs.Term.{tree};
@@ -6,6 +6,7 @@ ghost use Rattle.term_sorts.specs.Types.{record_types, types_of};
 ghost use Rattle.canonical_terms.specs.Inside.{inside};
 
 use crate::NoMemory;
+use owned_results::{all_three, both};
 use slang_values::{Binary, Quantifier};
 use sqlite_items::Items;
 use std::alloc::{AllocError, Global};
@@ -67,8 +68,8 @@ fn with_canonical_parts(
             canonical_quantified(alloc, symbols, records, q, low, high, body)
         }
         Shape::Sequence(s, ts) => {
-            let parts = canonical_all(alloc, symbols, records, ts)?;
-            Ok(Term::SeqLit(s.copy(alloc)?, parts))
+            let (sort, parts) = both(s.copy(alloc), canonical_all(alloc, symbols, records, ts))?;
+            Ok(Term::SeqLit(sort, parts))
         }
         Shape::Record(n, ts) => Ok(Term::Rec(n, canonical_all(alloc, symbols, records, ts)?)),
     }
@@ -85,8 +86,10 @@ fn canonical_binary(
 ) -> Result<Term, NoMemory>
     ensures { IfOk result (λ t. tree t ≡ inside (record_types records.now) (types_of symbols.now) (binary op (tree a.now) (tree b.now))) }
 {
-    let a = canonical(alloc, symbols, records, a)?;
-    let b = canonical(alloc, symbols, records, b)?;
+    let (a, b) = both(
+        canonical(alloc, symbols, records, a),
+        canonical(alloc, symbols, records, b),
+    )?;
     Term::binary(alloc, op, a, b)
 }
 
@@ -101,9 +104,11 @@ fn canonical_update(
 ) -> Result<Term, NoMemory>
     ensures { IfOk result (λ t. tree t ≡ inside (record_types records.now) (types_of symbols.now) (update (tree a.now) (tree i.now) (tree x.now))) }
 {
-    let a = canonical(alloc, symbols, records, a)?;
-    let i = canonical(alloc, symbols, records, i)?;
-    let x = canonical(alloc, symbols, records, x)?;
+    let (a, i, x) = all_three(
+        canonical(alloc, symbols, records, a),
+        canonical(alloc, symbols, records, i),
+        canonical(alloc, symbols, records, x),
+    )?;
     Term::update(alloc, a, i, x)
 }
 
@@ -120,9 +125,11 @@ fn canonical_quantified(
     ensures { IfOk result (λ t. tree t ≡ inside (record_types records.now) (types_of symbols.now)
         (quantified quantifier (tree low.now) (tree high.now) (tree body.now))) }
 {
-    let low = canonical(alloc, symbols, records, low)?;
-    let high = canonical(alloc, symbols, records, high)?;
-    let body = canonical(alloc, symbols, records, body)?;
+    let (low, high, body) = all_three(
+        canonical(alloc, symbols, records, low),
+        canonical(alloc, symbols, records, high),
+        canonical(alloc, symbols, records, body),
+    )?;
     Term::quantified(alloc, quantifier, low, high, body)
 }
 
@@ -137,9 +144,26 @@ pub fn canonical_all(
 ) -> Result<Items<Term>, NoMemory>
     ensures { IfOk result (λ ts. map tree ts ≡ map (λ t. canonical_of (record_types records.now) (types_of symbols.now) (tree t)) terms.now) }
 {
-    let mut parts = Items::new(alloc);
+    let mut copies = Items::new(alloc);
+    add_canonical(alloc, &mut copies, symbols, records, terms)?;
+    Ok(copies)
+}
+
+/// Adds the canonical copies of the terms.
+#[cycle(canonical)]
+#[tactic(auto, using(term_trees::proofs::Sizes::deepest_lines))]
+fn add_canonical(
+    alloc: Global,
+    copies: &mut Items<Term>,
+    symbols: &[Sort],
+    records: &[Items<Sort>],
+    terms: &[Term],
+) -> Result<(), NoMemory>
+    ensures { OnOk result (map tree copies.new ≡ map tree copies.old
+        ++ map (λ t. canonical_of (record_types records.now) (types_of symbols.now) (tree t)) terms.now) }
+{
     for term in terms {
-        parts.push(canonical(alloc, symbols, records, term)?)?;
+        copies.push(canonical(alloc, symbols, records, term)?)?;
     }
-    Ok(parts)
+    Ok(())
 }
