@@ -145,7 +145,7 @@ class Checker:
         return s.claim is self.negation(claim) and s.conclusion.kind == "F"
 
     def AllI(self, claim, s):
-        if claim.kind != "All" or s.symbol in symbols_in(claim, set()):
+        if claim.kind != "All":
             return False
         low, high, body = claim.parts
         return s.claim is self.within(low, s.symbol, high) and s.conclusion is self.closer.terms.instance(body, s.symbol)
@@ -165,7 +165,7 @@ class Checker:
         return claim.kind == "Exists" and self.at(claim, inside) is a
 
     def ExistsE(self, claim, a, s):
-        if a.kind != "Exists" or s.symbol in symbols_in(claim, set()):
+        if a.kind != "Exists":
             return False
         low, high, body = a.parts
         assumed = self.make("&", self.within(low, s.symbol, high), self.closer.terms.instance(body, s.symbol))
