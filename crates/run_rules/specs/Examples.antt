@@ -36,7 +36,8 @@ abbrev pub v : Variable → TypedExpr Variable
 v x = variable 0 x
 
 -- a method of numbers
-abbrev pub method_of : ℕ → List ValueType → List ValueType → List (NotedTree Variable) → List (NotedTree Variable) → List (CodeTree Variable) → MethodTree Variable
+abbrev pub method_of : ℕ → List ValueType → List ValueType → List (NotedTree Variable) → List (NotedTree Variable) → List (CodeTree Variable)
+    → MethodTree Variable
 method_of node params locals requires_ ensures_ body = record {
   name = [];
   node = node;
@@ -159,6 +160,7 @@ pub record RunExamples : Type 0 where
   -- the left operand first, and the operands before their operator
   pub left_first : failing [] (row_and (pos 1)) (binary 4 o.Div element (z (pos 0))) ≡ fails_at kinds.Index 1
   pub division_fails : failing [] (row_and (pos 0)) (binary 4 o.Div element (z (pos 0))) ≡ fails_at kinds.Division 4
-  pub update_fails_last : failing [] (row_and (pos 1)) (update 6 (v (local 0)) (v (local 1)) (binary 4 o.Rem (z (pos 1)) (z (pos 0)))) ≡ fails_at kinds.Division 4
+  pub update_fails_last : failing [] (row_and (pos 1)) (update 6 (v (local 0)) (v (local 1)) (binary 4 o.Rem (z (pos 1)) (z (pos 0))))
+      ≡ fails_at kinds.Division 4
   pub top_reaches_add : leads adding 1 (0 ∷ []) 0 ≡ true
   pub add_reaches_not_top : leads adding 0 (1 ∷ []) 1 ≡ false

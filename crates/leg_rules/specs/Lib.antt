@@ -1,0 +1,11 @@
+pub mod LegNames
+pub mod Mentions
+pub mod Checks
+pub mod Legs
+pub mod Numbering
+pub mod Store
+pub mod Sequents
+pub mod Answers
+pub mod Laws
+pub mod LegExamples
+pub mod SequentExamples
