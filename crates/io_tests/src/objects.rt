@@ -56,11 +56,13 @@ fn objects_in_memory_fail_where_listed(rt: HostRuntime) -> Result<(), Fail> {
     let answers = gives(alloc, &mut sink, &["abc", "c", "", "", "c"])?;
     assert_eq!(rt; answers.as_str(), "2 ! 0 ! 1 ");
     assert_eq!(rt; sink.bytes(), b"abc".as_slice());
+    assert_eq!(rt; sink.handed_on(), b"ab".as_slice());
 
     let mut sure = SureSink::new(alloc);
     let answers = gives(alloc, &mut sure, &["abc", "", "de"])?;
     assert_eq!(rt; answers.as_str(), "3 0 2 ");
     assert_eq!(rt; sure.bytes(), b"abcde".as_slice());
+    assert_eq!(rt; sure.handed_on(), b"abc".as_slice());
     Ok(())
 }
 
@@ -86,62 +88,99 @@ fn all_of_a_piece_is_given_or_a_front(rt: HostRuntime) -> Result<(), Fail> {
     Ok(())
 }
 
-// A stream whose first call is broken off and whose third fails. The others move a byte and none in turn.
-#[derive(Drop)]
-struct Flaky {
-    calls: u8,
+// What a call of a stream comes to: it is broken off by a signal, fails, or moves at most so many bytes.
+#[derive(Clone, Copy, Drop)]
+enum Call {
+    BrokenOff,
+    Fails,
+    Moves(usize),
 }
 
-impl Flaky {
-    fn call(&mut self) -> std::io::Result<usize> {
-        self.calls = self.calls.saturating_add(1);
-        match self.calls {
-            1 => Err(Error::from(ErrorKind::Interrupted)),
-            3 => Err(Error::from(ErrorKind::BrokenPipe)),
-            n if n % 2 == 0 => Ok(1),
-            _ => Ok(0),
+use Call::{BrokenOff, Fails, Moves};
+
+// A stream whose calls do as they are told. Those after the told ones fail.
+#[derive(Drop)]
+struct Told {
+    calls: [Call; 5],
+    made: usize,
+}
+
+impl Told {
+    fn new(calls: [Call; 5]) -> Told {
+        Told { calls, made: 0 }
+    }
+
+    fn call(&mut self, most: usize) -> std::io::Result<usize> {
+        let call = self.calls.get(self.made).copied().unwrap_or(Fails);
+        self.made = self.made.saturating_add(1);
+        match call {
+            BrokenOff => Err(Error::from(ErrorKind::Interrupted)),
+            Fails => Err(Error::from(ErrorKind::BrokenPipe)),
+            Moves(n) => Ok(n.min(most)),
         }
     }
 }
 
-impl Read for Flaky {
+impl Read for Told {
     fn read(&mut self, buf: &mut [u8]) -> std::io::Result<usize> {
-        let n = self.call()?.min(buf.len());
+        let n = self.call(buf.len())?;
         buf[..n].fill(b'x');
         Ok(n)
     }
 }
 
-impl Write for Flaky {
+impl Write for Told {
     fn write(&mut self, buf: &[u8]) -> std::io::Result<usize> {
-        Ok(self.call()?.min(buf.len()))
+        self.call(buf.len())
     }
 
     fn flush(&mut self) -> std::io::Result<()> {
-        self.call()?;
+        self.call(0)?;
         Ok(())
     }
 }
 
+// What the calls of a stream come to, and what three takes, gives and flushes over it answer. A call that is broken off is
+// made again, one that fails is not, and a write of no byte is a fault.
+static STREAMS: [([Call; 5], &str, &str, &str); 3] = [
+    (
+        [Moves(2), Moves(0), Moves(1), Fails, Fails],
+        "xx  x ",
+        "2 ! 1 ",
+        "0 0 0 ",
+    ),
+    (
+        [BrokenOff, Moves(1), BrokenOff, BrokenOff, Moves(2)],
+        "x xx ! ",
+        "1 2 ! ",
+        "0 0 ! ",
+    ),
+    (
+        [Fails, Moves(1), Fails, Moves(1), Moves(1)],
+        "! x ! ",
+        "! 1 ! ",
+        "! 0 ! ",
+    ),
+];
+
 #[test]
-fn streams_of_std_are_read_and_written(rt: HostRuntime) -> Result<(), Fail> {
+fn streams_fail_as_they_are_told(rt: HostRuntime) -> Result<(), Fail> {
     let alloc = rt.alloc();
+    for (calls, taken, given, flushed) in STREAMS.iter() {
+        let answers = takes(alloc, &mut StdSource::new(Told::new(*calls)), 3)?;
+        assert_eq!(rt; answers.as_str(), *taken);
+        let answers = gives(alloc, &mut StdSink::new(Told::new(*calls)), &["ab", "ab", "ab"])?;
+        assert_eq!(rt; answers.as_str(), *given);
+        let answers = gives(alloc, &mut StdSink::new(Told::new(*calls)), &["", "", ""])?;
+        assert_eq!(rt; answers.as_str(), *flushed);
+    }
+    Ok(())
+}
+
+#[test]
+fn streams_of_std_are_read(rt: HostRuntime) -> Result<(), Fail> {
     let mut source = StdSource::new(b"abcd".as_slice());
-    let answers = takes(alloc, &mut source, 3)?;
+    let answers = takes(rt.alloc(), &mut source, 3)?;
     assert_eq!(rt; answers.as_str(), "abc d  ");
-
-    let mut source = StdSource::new(Flaky { calls: 0 });
-    let answers = takes(alloc, &mut source, 4)?;
-    assert_eq!(rt; answers.as_str(), "x ! x  ");
-
-    // A write of no byte is a fault.
-    let mut sink = StdSink::new(Flaky { calls: 0 });
-    let answers = gives(alloc, &mut sink, &["ab", "ab", "ab", "ab", ""])?;
-    assert_eq!(rt; answers.as_str(), "1 ! 1 ! 0 ");
-
-    // A flush reaches the stream. One that is broken off is made again.
-    let mut sink = StdSink::new(Flaky { calls: 0 });
-    let answers = gives(alloc, &mut sink, &["", ""])?;
-    assert_eq!(rt; answers.as_str(), "0 ! ");
     Ok(())
 }

@@ -1,17 +1,18 @@
 -- The loop of `give_all`.
-use Rattle.std.proofs.Common.{ℕ, ◌+◌, ◌≤◌, List, [], ◌++◌, take, drop, length, Ok, sym, arith}
+use Rattle.std.proofs.Common.{ℕ, ◌+◌, ◌≤◌, List, [], ◌++◌, take, drop, length, Ok, sym, ◌∙◌, arith}
 use Rattle.std.proofs.lemmas.List.{length-drop, take-append-drop}
 use Rattle.std.proofs.Math.Seq.{take-add}
 use Rattle.lk_io.specs.Run.{run}
-use Rattle.lk_io.specs.Sink.{SinkState, SinkRun, Appends, Gives, GivesPart, IsQuiet}
+use Rattle.lk_io.specs.Sink.{SinkState, SinkRun, Appends, KeepsHanded, Gives, GivesPart, IsQuiet}
 use Rattle.lk_io.specs.GiveAll.{GivesWhole, GivesFront, given_before}
 use Rattle.lk_io.specs.declared.giving.GiveEnd.{GiveEnd}
 use Rattle.lk_io.proofs.SinkLaws.{Appends-none, Appends-then, IsQuiet-none, IsQuiet-then}
 
--- The first `out` bytes were given, and no call failed or found no memory.
+-- The first `out` bytes were given and none handed on, and no call failed or found no memory.
 pub record HasGiven (r : SinkRun) (piece : List ℕ) (out : ℕ) : Type 0 where
   pub fits : out ≤ length piece
   pub adds : Appends r (take out piece)
+  pub handed : KeepsHanded r
   pub quiet : IsQuiet r
 
 pub HasGiven-more : {a b c : SinkState} {piece : List ℕ} {out : ℕ} (n : ℕ)
@@ -19,6 +20,7 @@ pub HasGiven-more : {a b c : SinkState} {piece : List ℕ} {out : ℕ} (n : ℕ)
 HasGiven-more {a} {b} {c} {piece} {out} n so_far given = record {
   fits = omega (arith, so_far.fits, given.fits, length-drop out piece);
   adds = rw (take-add out n piece) (Appends-then so_far.adds given.adds);
+  handed = given.handed ∙ so_far.handed;
   quiet = IsQuiet-then so_far.quiet given.cause;
 }
 

@@ -18,6 +18,8 @@ pub record SourceInMemory : Type 0 where
 
 pub record SinkInMemory : Type 0 where
   pub given : List ℕ
+  -- how many bytes were handed on
+  pub handed : ℕ
   pub most : ℕ
   -- the calls of `give` and `flush` that fail, counted from 1
   pub fail_at : List ℕ
@@ -27,6 +29,7 @@ pub record SinkInMemory : Type 0 where
 
 pub record SureSinkInMemory : Type 0 where
   pub given : List ℕ
+  pub handed : ℕ
   pub refusals : ℕ
 
 -- All that is left is told.
@@ -39,9 +42,9 @@ TakesFromMemory before room (Ok n) now =
     (n ≡ min (min room before.most) (length before.left)) × (now ≡ record before { left = drop n before.left; calls = one_more before.calls })
 TakesFromMemory before room (Err _) now = now ≡ record before { calls = one_more before.calls; faults = one_more before.faults }
 
--- What was given is told.
+-- What was given is told, and how much of it was handed on.
 abbrev pub sink_state : SinkInMemory → SinkState
-sink_state s = record { given = Some s.given; faults = s.faults; refusals = s.refusals }
+sink_state s = record { given = Some s.given; handed = Some s.handed; faults = s.faults; refusals = s.refusals }
 
 -- A call that fails or finds no memory is counted; another takes as much of the piece as may go in one call.
 abbrev pub GivesToMemory : SinkInMemory → List ℕ → Result ℕ SinkEnd → SinkInMemory → Type 0
@@ -50,15 +53,15 @@ GivesToMemory before piece (Ok n) now =
 GivesToMemory before piece (Err Failed) now = now ≡ record before { calls = one_more before.calls; faults = one_more before.faults }
 GivesToMemory before piece (Err NoMemory) now = now ≡ record before { calls = one_more before.calls; refusals = one_more before.refusals }
 
--- A call of `flush` is counted, and finds memory.
+-- A call of `flush` is counted, and finds memory. One that does not fail hands on all.
 abbrev pub FlushesMemory : {T : Type 0} → SinkInMemory → Result T SinkEnd → SinkInMemory → Type 0
-FlushesMemory before (Ok _) now = now ≡ record before { calls = one_more before.calls }
+FlushesMemory before (Ok _) now = now ≡ record before { handed = length before.given; calls = one_more before.calls }
 FlushesMemory before (Err Failed) now = now ≡ record before { calls = one_more before.calls; faults = one_more before.faults }
 FlushesMemory before (Err NoMemory) now = ⊥
 
--- What was given is told, and no call fails.
+-- What was given is told, and how much of it was handed on; no call fails.
 abbrev pub sure_sink_state : SureSinkInMemory → SinkState
-sure_sink_state s = record { given = Some s.given; faults = 0; refusals = s.refusals }
+sure_sink_state s = record { given = Some s.given; handed = Some s.handed; faults = 0; refusals = s.refusals }
 
 -- A call takes the whole piece, or finds no memory.
 abbrev pub GivesSurely : SureSinkInMemory → List ℕ → Result ℕ SinkEnd → SureSinkInMemory → Type 0

@@ -1,5 +1,5 @@
 -- What a sink of bytes tells, and what its calls do to that.
-use Rattle.std.specs.Prelude.{◌≡◌, ℕ, ◌≤◌, List, ◌++◌, take, length, Option, Result, MatchResult, IfOk, OnErr}
+use Rattle.std.specs.Prelude.{◌≡◌, ℕ, ◌≤◌, List, ◌++◌, take, length, Option, IfSome, Result, MatchResult, IfOk, OnErr}
 use Rattle.std.specs.Io.KnownBytes.{Keeps, Appends as gains}
 use Rattle.lk_io.specs.Run.{Run, Rose}
 use Rattle.lk_io.specs.declared.sinks.SinkEnd.{SinkEnd}
@@ -8,6 +8,8 @@ use Rattle.lk_io.specs.declared.sinks.SinkEnd.TheVariants.{Failed, NoMemory}
 pub record SinkState : Type 0 where
   -- the bytes that it was given, where it tells them
   pub given : Option (List ℕ)
+  -- how many of these it has handed on, where it tells that
+  pub handed : Option ℕ
   -- how many of its calls have failed
   pub faults : ℕ
   -- how many of its calls found no memory
@@ -27,17 +29,25 @@ pub record GivesPart (run : SinkRun) (bytes : List ℕ) : Type 0 where
   pub whole : bytes ≡ part ++ rest
   pub adds : Appends run part
 
+-- What was handed on is what was handed on before.
+abbrev pub KeepsHanded : SinkRun → Type 0
+KeepsHanded run = run.now.handed ≡ run.before.handed
+
+-- All that was given has been handed on, where the sink tells both.
+abbrev pub HasHandedOn : SinkState → Type 0
+HasHandedOn sink = IfSome sink.given (λ bytes. IfSome sink.handed (λ count. count ≡ length bytes))
+
 -- No call failed, and none found no memory.
 pub record IsQuiet (run : SinkRun) : Type 0 where
   pub faults : run.now.faults ≡ run.before.faults
   pub refusals : run.now.refusals ≡ run.before.refusals
 
--- A call failed, and none found no memory.
+-- One call failed, and none found no memory.
 pub record IsFault (run : SinkRun) : Type 0 where
   pub faults : Rose run.before.faults run.now.faults
   pub refusals : run.now.refusals ≡ run.before.refusals
 
--- A call found no memory, and none failed.
+-- One call found no memory, and none failed.
 pub record IsRefusal (run : SinkRun) : Type 0 where
   pub faults : run.now.faults ≡ run.before.faults
   pub refusals : Rose run.before.refusals run.now.refusals
@@ -57,9 +67,11 @@ pub record Gives (run : SinkRun) (piece : List ℕ) (result : Result ℕ SinkEnd
   -- the first n bytes of the piece were given
   pub adds : IfOk result (λ n. Appends run (take n piece))
   pub kept : OnErr result (Keeps run.before.given run.now.given)
+  pub handed : KeepsHanded run
   pub cause : HasCause run result
 
--- One `flush`: it gives nothing, whatever it answers.
+-- One `flush`: it gives nothing, whatever it answers, and hands on all or nothing.
 pub record Flushes {T : Type 0} (run : SinkRun) (result : Result T SinkEnd) : Type 0 where
   pub kept : Keeps run.before.given run.now.given
+  pub handed : MatchResult result (λ _. HasHandedOn run.now) (λ _. KeepsHanded run)
   pub cause : HasCause run result

@@ -1,4 +1,5 @@
 ghost use Rattle.lk_io.specs.Run.{run};
+ghost use Rattle.lk_io.specs.Sink.{KeepsHanded};
 ghost use Rattle.lk_io.specs.GiveAll.{GivesAll};
 
 use crate::{Sink, SinkEnd};
@@ -27,7 +28,8 @@ impl From<GiveEnd> for SinkEnd {
 
 /// Gives the whole piece, in as many calls as the sink needs. The first call that fails or finds no memory ends it.
 pub fn give_all<S: Sink>(sink: &mut S, piece: &[u8]) -> Result<(), GiveEnd>
-    ensures { GivesAll (run (S.state sink.old) (S.state sink.new)) piece.now result }
+    ensures gives { GivesAll (run (S.state sink.old) (S.state sink.new)) piece.now result }
+    ensures handed { KeepsHanded (run (S.state sink.old) (S.state sink.new)) }
 {
     let mut out = 0;
     while out < piece.len() {

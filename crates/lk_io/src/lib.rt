@@ -1,7 +1,8 @@
 //! Where bytes come from and where they go: sources and sinks, in memory and over std's streams.
 //!
 //! A source tells, for contracts alone, the bytes that are left and a count of its faults; a sink tells the bytes that
-//! it was given and counts of its faults and of its refusals of memory. An object that tells no bytes tells its counts.
+//! it was given, how many of them it has handed on, and counts of its faults and of its refusals of memory. An object
+//! that tells no bytes tells its counts.
 #![tactic(auto)]
 
 mod calls;

@@ -1,4 +1,4 @@
-ghost use Rattle.std.specs.Prelude.{◌≡◌, ◌<◌, ◌≤◌, ◌↔◌, [], Contains, IsErrOf, IsOk, length};
+ghost use Rattle.std.specs.Prelude.{◌≡◌, ◌<◌, ◌≤◌, ◌↔◌, [], Contains, IsErrOf, IsOk, length, take};
 ghost use Rattle.lk_io.specs.Run.{run, one_more};
 ghost use Rattle.lk_io.specs.Sink.{Gives, Flushes};
 
@@ -11,23 +11,28 @@ use std::marker::Model;
 #[derive(Drop)]
 pub struct SureSink {
     given: Vec<u8>,
+    handed: usize,
     refusals: u64,
 }
 
 impl Model for SureSink {
+    ghost use Rattle.std.specs.Prelude.{◌≤◌, vec_len};
     ghost use Rattle.lk_io.specs.Memory.{SureSinkInMemory};
 
     ghost Value = { SureSinkInMemory };
 
-    ghost view = { λ s. record { given = s.given.items; refusals = s.refusals } };
+    ghost view = { λ s. record { given = s.given.items; handed = s.handed; refusals = s.refusals } };
+
+    ghost invariant = { λ s. s.handed ≤ vec_len s.given };
 }
 
 impl SureSink {
     pub fn new(alloc: Global) -> SureSink
-        ensures { result ≡ record { given = []; refusals = 0 } }
+        ensures { result ≡ record { given = []; handed = 0; refusals = 0 } }
     {
         SureSink {
             given: Vec::new(alloc),
+            handed: 0,
             refusals: 0,
         }
     }
@@ -37,6 +42,13 @@ impl SureSink {
         ensures { result.now ≡ self.now.given }
     {
         &self.given
+    }
+
+    /// What was handed on.
+    pub fn handed_on(&self) -> &[u8]
+        ensures { result.now ≡ take self.now.handed self.now.given }
+    {
+        &self.given[..self.handed]
     }
 }
 
@@ -59,9 +71,10 @@ impl Sink for SureSink {
 
     fn flush(&mut self) -> Result<(), SinkEnd>
         ensures flushes { Flushes (run (sure_sink_state self.old) (sure_sink_state self.new)) result }
-        ensures same { self.new ≡ self.old }
+        ensures exact { self.new ≡ record self.old { handed = length self.old.given } }
         ensures ok { IsOk result }
     {
+        self.handed = self.given.len();
         Ok(())
     }
 }
@@ -82,6 +95,7 @@ impl Model for MemSink {
 
     ghost view = { λ s. record {
       given = s.inner.given;
+      handed = s.inner.handed;
       most = s.most;
       fail_at = s.calls.fail_at.items;
       calls = s.calls.made;
@@ -97,7 +111,7 @@ impl MemSink {
     /// counted from 1, fail.
     pub fn new(alloc: Global, most: usize, fail_at: Vec<u64>) -> MemSink
         requires { 1 ≤ most }
-        ensures { result ≡ record { given = []; most = most; fail_at = fail_at.items; calls = 0; faults = 0; refusals = 0 } }
+        ensures { result ≡ record { given = []; handed = 0; most = most; fail_at = fail_at.items; calls = 0; faults = 0; refusals = 0 } }
     {
         MemSink {
             inner: SureSink::new(alloc),
@@ -111,6 +125,13 @@ impl MemSink {
         ensures { result.now ≡ self.now.given }
     {
         self.inner.bytes()
+    }
+
+    /// What was handed on.
+    pub fn handed_on(&self) -> &[u8]
+        ensures { result.now ≡ take self.now.handed self.now.given }
+    {
+        self.inner.handed_on()
     }
 }
 
@@ -135,6 +156,7 @@ impl Sink for MemSink {
         ensures listed { IsErrOf result SinkEnd.Failed ↔ Contains self.old.fail_at (one_more self.old.calls) }
         ensures exact { FlushesMemory self.old result self.new }
     {
-        Ok(self.calls.begin()?)
+        self.calls.begin()?;
+        self.inner.flush()
     }
 }

@@ -1,6 +1,6 @@
 ghost use Rattle.std.specs.Prelude.{◌≡◌, ◌↔◌, IsTrue};
 ghost use Rattle.std.specs.IoError.{error_kind};
-ghost use Rattle.lk_io.specs.Run.{Rose};
+ghost use Rattle.lk_io.specs.Run.{one_more};
 
 use crate::{Failed, Sink, SinkEnd, Source};
 use std::io::{Error, ErrorKind, Read, Write};
@@ -49,8 +49,9 @@ impl<R: Read + Drop> Source for StdSource<R> {
     }
 }
 
-/// One of std's writers. It tells the bytes that the writer tells, of which a stream of the system tells none, and counts
-/// the writes and flushes that failed, a write of no byte among them. It never answers want of memory.
+/// One of std's writers. It tells the bytes that the writer tells, of which a stream of the system tells none, and not how
+/// many of them it has handed on. It counts the writes and flushes that failed, a write of no byte among them, and never
+/// answers want of memory.
 #[derive(Drop)]
 pub struct StdSink<W: Write + Drop> {
     writer: W,
@@ -58,25 +59,24 @@ pub struct StdSink<W: Write + Drop> {
 }
 
 impl<W: Write + Drop> Model for StdSink<W> {
+    ghost use Rattle.std.specs.Prelude.{None};
     ghost use Rattle.lk_io.specs.Sink.{SinkState};
 
     ghost Value = { SinkState };
 
-    ghost view = { λ s. record { given = W.contents s.writer; faults = s.faults; refusals = 0 } };
+    ghost view = { λ s. record { given = W.contents s.writer; handed = None; faults = s.faults; refusals = 0 } };
 }
 
 impl<W: Write + Drop> StdSink<W> {
     pub fn new(writer: W) -> StdSink<W>
-        ensures { result ≡ record { given = W.contents writer; faults = 0; refusals = 0 } }
+        ensures { result ≡ record { given = W.contents writer; handed = None; faults = 0; refusals = 0 } }
     {
         StdSink { writer, faults: 0 }
     }
 
     fn fail(&mut self) -> SinkEnd
         ensures failed { result ≡ SinkEnd.Failed }
-        ensures counted { Rose self.old.faults self.new.faults }
-        ensures given { self.new.given ≡ self.old.given }
-        ensures refusals { self.new.refusals ≡ self.old.refusals }
+        ensures counted { self.new ≡ record self.old { faults = one_more self.old.faults } }
     {
         self.faults = self.faults.saturating_add(1);
         SinkEnd::Failed

@@ -3,19 +3,25 @@ use Rattle.std.proofs.Common.{◌≤◌, ℕ, List, [], ◌++◌, refl, inl, inr
 use Rattle.lk_io.specs.Run.{run}
 use Rattle.lk_io.specs.Source.{SourceRun}
 use Rattle.lk_io.specs.Sink.{SinkState, SinkRun}
-use Rattle.lk_io.specs.GiveAll.{GivesWhole}
 use Rattle.lk_io.specs.declared.sinks.SinkEnd.{SinkEnd}
 use Rattle.lk_io.specs.declared.sinks.SinkEnd.TheVariants.{Failed, NoMemory}
-use Rattle.lk_io.proofs.SinkLaws.{Appends-none, IsQuiet-none, GivesPart-whole}
+use Rattle.lk_io.proofs.SinkLaws.{Appends-none, IsQuiet-none}
 use Rattle.fresh_check.specs.Output.{IsOutput}
-use Rattle.logika_cli.specs.Reading.{ReadsWhole, ReadEnds}
-use Rattle.logika_cli.specs.Writing.{WritesPart}
-use Rattle.logika_cli.specs.Status.{IsDueOf, EndsBy, answer}
+use Rattle.logika_cli.specs.Reading.{ReadsWhole, ReadsFront, ReadEnds}
+use Rattle.logika_cli.specs.Writing.{WritesWhole, WritesPart}
+use Rattle.logika_cli.specs.Status.{IsDueOf, EndsBy, no_memory, answer}
 use Rattle.logika_cli.specs.Check.{checked, too_large, check_command}
 use Rattle.logika_cli.specs.Stop.{end_of, stop_of_read, stop_of_write, Answers}
 use Rattle.logika_cli.specs.declared.limits.Limits.{Limits}
 use Rattle.logika_cli.specs.declared.reading.ReadEnd.{ReadEnd}
-use Rattle.logika_cli.specs.declared.reading.ReadEnd.TheVariants.{ReadFault, TooLarge, NoMemory as no_memory}
+use Rattle.logika_cli.specs.declared.reading.ReadEnd.TheVariants.{ReadFault, TooLarge, NoMemory as unread}
+
+-- Memory ran out while nothing was given.
+pub EndsBy-no_memory : (limits : Limits) (source : SourceRun) (out : SinkState) → ReadsFront source → EndsBy (check_command limits) source (run out out) no_memory
+EndsBy-no_memory limits source out read = record {
+  read = read.no_fault;
+  cause = inl (record { front = read.front; taken = read.taken; text = []; earlier = refl; given = Appends-none out; quiet = IsQuiet-none out });
+}
 
 -- The source was not read to its end, and nothing was given.
 pub EndsBy-read : (limits : Limits) (source : SourceRun) (out : SinkState) (end : ReadEnd)
@@ -33,13 +39,10 @@ EndsBy-read limits source out (TooLarge line) read = record {
   is_due = record { input = read.text; told = read.told; is_due = too_large read.passes };
   read = read.no_fault;
   given = Appends-none out;
+  handed = λ answers. cc;
   quiet = IsQuiet-none out;
 }
-EndsBy-read limits source out no_memory read = record {
-  read = read.no_fault;
-  written = refl;
-  given = inl (record { front = read.front; taken = read.taken; text = []; earlier = refl; given = GivesPart-whole (Appends-none out) });
-}
+EndsBy-read limits source out unread read = EndsBy-no_memory limits source out read
 
 module _ (limits : Limits) (source : SourceRun) (input text : List ℕ) (code : ℕ) (read : ReadsWhole limits source input) (output : IsOutput input text code) (small : code ≤ 2) where
   is_due : IsDueOf (check_command limits) source (answer text code)
@@ -57,13 +60,12 @@ module _ (limits : Limits) (source : SourceRun) (input text : List ℕ) (code : 
   }
   EndsBy-write out NoMemory wrote = record {
     read = read.no_fault;
-    written = wrote.cause.faults;
-    given = inr (record { due = answer text code; is_due = is_due; given = rw (append-nil text) at wrote.given });
+    cause = inr (record { due = answer text code; is_due = is_due; writes = inl refl; given = rw (append-nil text) at wrote.given; refusal = wrote.cause });
   }
 
   -- The output was written.
-  pub Answers-whole : (out : SinkRun) → GivesWhole out (text ++ []) → Answers (check_command limits) source out code
+  pub Answers-whole : (out : SinkRun) → WritesWhole out (text ++ []) → Answers (check_command limits) source out code
   Answers-whole out wrote = record {
     text = text;
-    ends = record { is_due = is_due; read = read.no_fault; given = rw (append-nil text) at wrote.adds; quiet = wrote.quiet };
+    ends = record { is_due = is_due; read = read.no_fault; given = rw (append-nil text) at wrote.given.adds; handed = λ _. wrote.handed; quiet = wrote.given.quiet };
   }

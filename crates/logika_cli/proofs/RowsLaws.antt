@@ -1,13 +1,14 @@
 -- The rows of `check`.
 use Rattle.std.proofs.Common.{◌≡◌, ◌≢◌, ◌⊎◌, ℕ, List, [], Option, Some, None, inl, inr, refl, sym, arith}
 use Rattle.lk_io.specs.Source.{SourceRun, Tells}
-use Rattle.lk_io.specs.Sink.{SinkRun, Appends, GivesPart, IsQuiet, IsFault}
+use Rattle.lk_io.specs.Sink.{SinkRun, Appends, GivesPart, HasHandedOn, IsQuiet, IsFault, IsRefusal}
+use Rattle.lk_io.specs.GiveAll.{GivesWhole}
 use Rattle.logika_cli.specs.Reading.{HasNoFault}
 use Rattle.logika_cli.specs.Journal.{GetsLine, write_fault_line}
-use Rattle.logika_cli.specs.Status.{Due, End, as_due, read_fault, write_fault, no_memory, code_of, line_of, EndsBy, GivesEarlier, GivesDue, HasStatus}
+use Rattle.logika_cli.specs.Status.{Due, End, as_due, read_fault, write_fault, no_memory, refusal, code_of, line_of, EndsBy, FindsNoMemory, RefusesText, HasStatus}
 use Rattle.logika_cli.specs.Check.{IsDueOfCheck, checked, too_large, check_command}
 use Rattle.fresh_check.proofs.OutputLaws.{verified_is_safe}
-use Rattle.logika_cli.specs.Rows.{Rows, GivesFrontOfOutput}
+use Rattle.logika_cli.specs.Rows.{Rows, OutputRefused}
 use Rattle.logika_cli.specs.declared.limits.Limits.{Limits}
 use Rattle.logika_cli.proofs.LimitLaws.{past_or_within, one_line}
 
@@ -15,15 +16,20 @@ use Rattle.logika_cli.proofs.LimitLaws.{past_or_within, one_line}
 told_is : {left : Option (List ℕ)} (input told : List ℕ) → left ≡ Some told → Tells left input → told ≡ input
 told_is {left} input told e tells = rw e at tells
 
+-- A refusal writes nothing.
+writes_nothing : {line : List ℕ} → ((refusal 8 line).line ≡ None) ⊎ ((refusal 8 line).text ≢ []) → ⊥
+writes_nothing (inl e) = cc
+writes_nothing (inr more) = more refl
+
 module _ (limits : Limits) (source : SourceRun) (out journal : SinkRun) (code : ℕ) where
-  rows-due : {input : List ℕ} {due : Due} → Tells source.before.left input → IsDueOfCheck limits input due → HasNoFault source → Appends out due.text → IsQuiet out
+  rows-due : {input : List ℕ} {due : Due} → Tells source.before.left input → IsDueOfCheck limits input due → HasNoFault source → Appends out due.text → (due.line ≡ None → HasHandedOn out.now) → IsQuiet out
       → code ≡ due.code → GetsLine journal due.line → Rows limits source out journal code
-  rows-due {input} told (checked {text} {code = c} within output small) read given quiet code_is line = record {
+  rows-due {input} told (checked {text} {code = c} within output small) read given handed quiet code_is line = record {
     only = inl (omega arith);
     answered = λ at. record {
       text = text;
       output = record { input = input; told = told; within = within; output = rw (sym code_is) at output; safe = verified_is_safe input };
-      given = record { adds = given; quiet = quiet };
+      written = record { given = record { adds = given; quiet = quiet }; handed = handed refl };
       silent = line;
     };
     read_fault = λ at. absurd (omega arith);
@@ -35,7 +41,7 @@ module _ (limits : Limits) (source : SourceRun) (out journal : SinkRun) (code : 
     within = λ told_input is w read' written. inl (omega arith);
     past = λ told_input line_no is passes read'. absurd (past_or_within passes (rw (told_is input told_input is told) within));
   }
-  rows-due {input} told (too_large {line = line_no} passes) read given quiet code_is line = record {
+  rows-due {input} told (too_large {line = line_no} passes) read given handed quiet code_is line = record {
     only = inr (omega arith, omega arith);
     answered = λ at. absurd (omega arith);
     read_fault = λ at. absurd (omega arith);
@@ -68,19 +74,26 @@ module _ (limits : Limits) (source : SourceRun) (out journal : SinkRun) (code : 
     within = λ told_input is w read' written. absurd (written fault.faults);
     past = λ told_input line_no is passes read'. absurd (past_or_within passes (rw (told_is input told_input is told) within));
   }
-  rows-write {input} told (too_large {line = line_no} passes) writes read given fault code_is line = absurd (elim writes [ inl e ↦ cc | inr more ↦ more refl ])
+  rows-write {input} told (too_large {line = line_no} passes) writes read given fault code_is line = absurd (writes_nothing writes)
 
-  part-due : {input : List ℕ} {due : Due} → Tells source.before.left input → IsDueOfCheck limits input due → GivesPart out due.text → GivesPart out [] ⊎ GivesFrontOfOutput limits source out
-  part-due {input} told (checked {text} {code = c} within output small) given =
-      inr (record { text = text; code = c; output = record { input = input; told = told; within = within; output = output; safe = verified_is_safe input }; given = given })
-  part-due told (too_large passes) given = inl given
+  refused : {input : List ℕ} {due : Due} → Tells source.before.left input → IsDueOfCheck limits input due → (due.line ≡ None) ⊎ (due.text ≢ []) → GivesPart out due.text → IsRefusal out
+      → OutputRefused limits source out
+  refused {input} told (checked {text} {code = c} within output small) writes given refusal = record {
+    given = record { text = text; code = c; output = record { input = input; told = told; within = within; output = output; safe = verified_is_safe input }; given = given };
+    refusal = refusal;
+  }
+  refused told (too_large passes) writes given refusal = absurd (writes_nothing writes)
 
-  parts : GivesEarlier (check_command limits) source out ⊎ GivesDue (check_command limits) source out → GivesPart out [] ⊎ GivesFrontOfOutput limits source out
-  parts (inl earlier) = inl (rw earlier.earlier at earlier.given)
-  parts (inr due) = part-due due.is_due.told due.is_due.is_due due.given
+  out_of_memory : FindsNoMemory (check_command limits) source out ⊎ RefusesText (check_command limits) source out → GivesWhole out [] ⊎ OutputRefused limits source out
+  out_of_memory (inl own) = inl (record { adds = rw own.earlier at own.given; quiet = own.quiet })
+  out_of_memory (inr due) = inr (refused due.is_due.told due.is_due.is_due due.writes due.given due.refusal)
+
+  kept : FindsNoMemory (check_command limits) source out ⊎ RefusesText (check_command limits) source out → out.now.faults ≡ out.before.faults
+  kept (inl own) = own.quiet.faults
+  kept (inr due) = due.refusal.faults
 
   rows : (end : End) → EndsBy (check_command limits) source out end → code ≡ code_of end → GetsLine journal (line_of end) → Rows limits source out journal code
-  rows (as_due due) ends code_is line = rows-due ends.is_due.told ends.is_due.is_due ends.read ends.given ends.quiet code_is line
+  rows (as_due due) ends code_is line = rows-due ends.is_due.told ends.is_due.is_due ends.read ends.given ends.handed ends.quiet code_is line
   rows read_fault ends code_is line = record {
     only = inr (omega arith, omega arith);
     answered = λ at. absurd (omega arith);
@@ -99,10 +112,10 @@ module _ (limits : Limits) (source : SourceRun) (out journal : SinkRun) (code : 
     answered = λ at. absurd (omega arith);
     read_fault = λ at. absurd (omega arith);
     write_fault = λ at. absurd (omega arith);
-    no_memory = λ at. record { given = parts ends.given; line = line };
+    no_memory = λ at. record { given = out_of_memory ends.cause; line = line };
     too_large = λ at. absurd (omega arith);
     read_faults = λ fault. absurd (fault ends.read);
-    write_faults = λ fault. absurd (fault ends.written);
+    write_faults = λ fault. absurd (fault (kept ends.cause));
     within = λ told_input is w read written. inr code_is;
     past = λ told_input line_no is passes read. inr code_is;
   }

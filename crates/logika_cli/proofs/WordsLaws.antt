@@ -26,15 +26,14 @@ module _ (limits : Limits) (words : List (List ℕ)) where
       due d of_check = record { input = of_check.input; told = of_check.told; is_due = check is_check of_check.is_due }
 
       ends : (end : End) → EndsBy (check_command limits) source out end → EndsBy (command_of limits words) source out end
-      ends (as_due d) e = record { is_due = due d e.is_due; read = e.read; given = e.given; quiet = e.quiet }
+      ends (as_due d) e = record { is_due = due d e.is_due; read = e.read; given = e.given; handed = e.handed; quiet = e.quiet }
       ends read_fault e = record { front = e.front; taken = e.taken; text = e.text; earlier = e.earlier; fault = e.fault; given = e.given; quiet = e.quiet }
       ends write_fault e = record { due = e.due; is_due = due e.due e.is_due; writes = e.writes; read = e.read; given = e.given; fault = e.fault }
       ends no_memory e = record {
         read = e.read;
-        written = e.written;
-        given = elim e.given [
-          | inl part ↦ inl (record { front = part.front; taken = part.taken; text = part.text; earlier = part.earlier; given = part.given })
-          | inr part ↦ inr (record { due = part.due; is_due = due part.due part.is_due; given = part.given })
+        cause = elim e.cause [
+          | inl own ↦ inl (record { front = own.front; taken = own.taken; text = own.text; earlier = own.earlier; given = own.given; quiet = own.quiet })
+          | inr text ↦ inr (record { due = text.due; is_due = due text.due text.is_due; writes = text.writes; given = text.given; refusal = text.refusal })
         ];
       }
 
@@ -44,7 +43,7 @@ module _ (limits : Limits) (words : List (List ℕ)) where
       let input = Tells-front (Consumes-none source) in
       record {
         end = as_due (refusal 3 words_line);
-        ends = record { is_due = record { input = input.0; told = input.1; is_due = refused other }; read = refl; given = Appends-none out; quiet = IsQuiet-none out };
+        ends = record { is_due = record { input = input.0; told = input.1; is_due = refused other }; read = refl; given = Appends-none out; handed = λ answers. cc; quiet = IsQuiet-none out };
         code_is = code_is;
         line = line;
       }

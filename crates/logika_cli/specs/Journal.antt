@@ -2,6 +2,7 @@
 use Rattle.std.specs.Prelude.{ℕ, List, [], ◌++◌, ◌⊎◌, Option, Some, None, codes, decimal}
 use Rattle.lk_io.specs.Sink.{SinkRun, GivesPart, IsFault, IsRefusal}
 use Rattle.lk_io.specs.GiveAll.{GivesWhole}
+use Rattle.logika_cli.specs.Writing.{WritesWhole}
 
 abbrev pub words_line : List ℕ
 words_line = codes "logika: words refused\n"
@@ -24,8 +25,8 @@ pub record CutsLine (journal : SinkRun) (line : List ℕ) : Type 0 where
   pub given : GivesPart journal line
   pub cause : IsFault journal ⊎ IsRefusal journal
 
--- The journal was given this line and nothing else, whole unless the journal itself cut it. With no line it was given
--- nothing.
+-- The journal was given this line and nothing else, whole and handed on unless the journal itself cut it. With no line it
+-- was given nothing.
 abbrev pub GetsLine : SinkRun → Option (List ℕ) → Type 0
 GetsLine journal None = GivesWhole journal []
-GetsLine journal (Some line) = GivesWhole journal line ⊎ CutsLine journal line
+GetsLine journal (Some line) = WritesWhole journal line ⊎ CutsLine journal line

@@ -2,6 +2,10 @@
 use Rattle.std.specs.Prelude.{◌≡◌, ◌==◌, ℕ, ◌+◌, ◌≤◌, List, [], ◌∷◌, ◌++◌, length, count_by, Contains}
 use Rattle.logika_cli.specs.declared.limits.Limits.{Limits}
 
+-- The limits of the source: 64 MiB, and 1 MiB in one line.
+abbrev pub source_limits : Limits
+source_limits = record { bytes = 67108864; line = 1048576 }
+
 -- The byte of a newline.
 abbrev pub newline : ℕ
 newline = 10

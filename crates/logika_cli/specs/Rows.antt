@@ -2,11 +2,12 @@
 use Rattle.std.specs.Prelude.{◌≡◌, ◌≢◌, ◌≤◌, ℕ, List, [], ◌⊎◌, Some}
 use Rattle.lk_io.specs.Run.{Rose}
 use Rattle.lk_io.specs.Source.{SourceRun, Tells}
-use Rattle.lk_io.specs.Sink.{SinkRun, GivesPart}
+use Rattle.lk_io.specs.Sink.{SinkRun, GivesPart, IsRefusal}
 use Rattle.lk_io.specs.GiveAll.{GivesWhole}
 use Rattle.fresh_check.specs.Output.{IsOutput, VerifiedIsSafe}
 use Rattle.logika_cli.specs.Limits.{IsWithin, PassesIn}
 use Rattle.logika_cli.specs.Reading.{HasNoFault}
+use Rattle.logika_cli.specs.Writing.{WritesWhole}
 use Rattle.logika_cli.specs.Journal.{GetsLine, too_large_line, read_fault_line, write_fault_line, no_memory_line}
 use Rattle.logika_cli.specs.declared.limits.Limits.{Limits}
 
@@ -19,11 +20,11 @@ pub record HasOutput (limits : Limits) (source : SourceRun) (text : List ℕ) (c
   pub output : IsOutput input text code
   pub safe : VerifiedIsSafe input
 
--- 0, 1, 2: the whole output was given, and nothing on the journal.
+-- 0, 1, 2: the whole output was given and handed on, and nothing was given on the journal.
 pub record Answered (limits : Limits) (source : SourceRun) (out journal : SinkRun) (code : ℕ) : Type 0 where
   pub text : List ℕ
   pub output : HasOutput limits source text code
-  pub given : GivesWhole out text
+  pub written : WritesWhole out text
   pub silent : GivesWhole journal []
 
 -- 5: the source failed. Nothing was given on the output.
@@ -45,9 +46,14 @@ pub record FailedToWrite (limits : Limits) (source : SourceRun) (out journal : S
   pub fault : Rose out.before.faults out.now.faults
   pub line : GetsLine journal (Some write_fault_line)
 
--- 7: memory ran out. Nothing was given on the output, or a front of what is due to it.
+-- The output found no memory for what is due to it, and was given a front of that.
+pub record OutputRefused (limits : Limits) (source : SourceRun) (out : SinkRun) : Type 0 where
+  pub given : GivesFrontOfOutput limits source out
+  pub refusal : IsRefusal out
+
+-- 7: memory ran out. Nothing was given on the output, unless it was the output that found no memory.
 pub record RanOutOfMemory (limits : Limits) (source : SourceRun) (out journal : SinkRun) : Type 0 where
-  pub given : GivesPart out [] ⊎ GivesFrontOfOutput limits source out
+  pub given : GivesWhole out [] ⊎ OutputRefused limits source out
   pub line : GetsLine journal (Some no_memory_line)
 
 -- 8: the input, told where the source tells it, passes a limit. Nothing was given on the output.

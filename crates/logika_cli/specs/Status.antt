@@ -2,7 +2,7 @@
 use Rattle.std.specs.Prelude.{◌≡◌, ◌≢◌, ℕ, List, [], ◌⊎◌, Option, Some, None}
 use Rattle.lk_io.specs.Run.{Rose}
 use Rattle.lk_io.specs.Source.{SourceRun, Tells, Consumes}
-use Rattle.lk_io.specs.Sink.{SinkRun, Appends, GivesPart, IsQuiet, IsFault}
+use Rattle.lk_io.specs.Sink.{SinkRun, Appends, GivesPart, HasHandedOn, IsQuiet, IsFault, IsRefusal}
 use Rattle.logika_cli.specs.Reading.{HasNoFault}
 use Rattle.logika_cli.specs.Journal.{GetsLine, read_fault_line, write_fault_line, no_memory_line}
 
@@ -53,11 +53,12 @@ pub record IsDueOf (command : Command) (source : SourceRun) (due : Due) : Type 0
   pub told : Tells source.before.left input
   pub is_due : command.due input due
 
--- The whole text was given, and nothing failed or found no memory.
+-- The whole text was given, and nothing failed or found no memory. That of an answer was handed on.
 pub record EndsAsDue (command : Command) (source : SourceRun) (out : SinkRun) (due : Due) : Type 0 where
   pub is_due : IsDueOf command source due
   pub read : HasNoFault source
   pub given : Appends out due.text
+  pub handed : due.line ≡ None → HasHandedOn out.now
   pub quiet : IsQuiet out
 
 -- The source failed. The output of the commands read before is whole.
@@ -79,25 +80,28 @@ pub record EndsByWriteFault (command : Command) (source : SourceRun) (out : Sink
   pub given : GivesPart out due.text
   pub fault : IsFault out
 
--- A front was given of the text due of the commands read so far.
-pub record GivesEarlier (command : Command) (source : SourceRun) (out : SinkRun) : Type 0 where
+-- The command found no memory, and the output was not asked for any. The output of the commands read before is whole, and
+-- nothing stands behind it.
+pub record FindsNoMemory (command : Command) (source : SourceRun) (out : SinkRun) : Type 0 where
   pub front : List ℕ
   pub taken : Consumes source front
   pub text : List ℕ
   pub earlier : command.earlier front text
-  pub given : GivesPart out text
+  pub given : Appends out text
+  pub quiet : IsQuiet out
 
--- A front was given of the text due of the whole input.
-pub record GivesDue (command : Command) (source : SourceRun) (out : SinkRun) : Type 0 where
+-- The output found no memory while the text of an answer was due to it, and a front of that text was given.
+pub record RefusesText (command : Command) (source : SourceRun) (out : SinkRun) : Type 0 where
   pub due : Due
   pub is_due : IsDueOf command source due
+  pub writes : (due.line ≡ None) ⊎ (due.text ≢ [])
   pub given : GivesPart out due.text
+  pub refusal : IsRefusal out
 
--- Memory ran out. Neither the source nor the output failed, and a front of the right text was given.
+-- Memory ran out. Neither the source nor the output failed.
 pub record EndsByNoMemory (command : Command) (source : SourceRun) (out : SinkRun) : Type 0 where
   pub read : HasNoFault source
-  pub written : out.now.faults ≡ out.before.faults
-  pub given : GivesEarlier command source out ⊎ GivesDue command source out
+  pub cause : FindsNoMemory command source out ⊎ RefusesText command source out
 
 abbrev pub EndsBy : Command → SourceRun → SinkRun → End → Type 0
 EndsBy command source out (as_due due) = EndsAsDue command source out due

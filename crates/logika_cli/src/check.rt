@@ -1,6 +1,7 @@
 ghost use Rattle.lk_io.specs.Run.{run};
 ghost use Rattle.logika_cli.specs.Status.{HasStatus};
 ghost use Rattle.logika_cli.specs.Check.{check_command};
+ghost use Rattle.logika_cli.specs.Limits.{source_limits};
 ghost use Rattle.logika_cli.specs.Rows.{Rows};
 ghost use Rattle.logika_cli.specs.Stop.{AnswersOrStops};
 
@@ -20,11 +21,11 @@ pub fn check_once<S: Source, O: Sink, J: Sink>(
     out: &mut O,
     journal: &mut J,
 ) -> Status
-    ensures status { HasStatus (check_command LIMITS)
+    ensures status { HasStatus (check_command source_limits)
         (run (S.state source.old) (S.state source.new))
         (run (O.state out.old) (O.state out.new))
         (run (J.state journal.old) (J.state journal.new)) result.code }
-    ensures rows { Rows LIMITS
+    ensures rows { Rows source_limits
         (run (S.state source.old) (S.state source.new))
         (run (O.state out.old) (O.state out.new))
         (run (J.state journal.old) (J.state journal.new)) result.code }
@@ -33,7 +34,7 @@ pub fn check_once<S: Source, O: Sink, J: Sink>(
 }
 
 fn answer_check<S: Source, O: Sink>(alloc: Global, source: &mut S, out: &mut O) -> Result<u8, Stop>
-    ensures { AnswersOrStops (check_command LIMITS)
+    ensures { AnswersOrStops (check_command source_limits)
         (run (S.state source.old) (S.state source.new))
         (run (O.state out.old) (O.state out.new)) result }
 {

@@ -3,11 +3,11 @@ ghost use Rattle.std.specs.String.{string_bytes};
 ghost use Rattle.lk_io.specs.Run.{run};
 ghost use Rattle.logika_cli.specs.Status.{HasStatus};
 ghost use Rattle.logika_cli.specs.Words.{IsCheck, command_of};
+ghost use Rattle.logika_cli.specs.Limits.{source_limits};
 ghost use Rattle.logika_cli.specs.Rows.{Rows};
 ghost use Rattle.logika_cli.specs.Journal.{GetsLine, words_line, no_memory_line};
 
 use crate::check::check_once;
-use crate::limits::LIMITS;
 use crate::status::{Status, conclude};
 use crate::stop::Stop;
 use lk_io::{Sink, Source};
@@ -22,7 +22,7 @@ pub fn logika_main<R, S: Source, O: Sink, J: Sink>(
     out: &mut O,
     journal: &mut J,
 ) -> Status
-    ensures status { HasStatus (command_of LIMITS (map string_bytes words.now))
+    ensures status { HasStatus (command_of source_limits (map string_bytes words.now))
         (run (S.state source.old) (S.state source.new))
         (run (O.state out.old) (O.state out.new))
         (run (J.state journal.old) (J.state journal.new)) result.code }
@@ -35,7 +35,7 @@ pub fn logika_main<R, S: Source, O: Sink, J: Sink>(
         → GetsLine (run (J.state journal.old) (J.state journal.new)) (Some words_line) }
 
     // Else each status tells what its row of `check` says.
-    ensures checks { IsCheck (map string_bytes words.now) → Rows LIMITS
+    ensures checks { IsCheck (map string_bytes words.now) → Rows source_limits
         (run (S.state source.old) (S.state source.new))
         (run (O.state out.old) (O.state out.new))
         (run (J.state journal.old) (J.state journal.new)) result.code }

@@ -8,4 +8,4 @@ returns-in_err-give_all g c =
     let p = err_from_is_err_and c.from_residual.result c.from_residual.ensures.1 in
     let text = λ (piece : Bor (List ℕ)). piece.now in
     rw (p.1, p.2)
-    (WritesPart-piece text c.args.pieces.now c.loop-piece.piece-index _ c.loop-piece-test.true c.loop-piece.invariant c.in_err-give_all.ensures)
+    (WritesPart-piece text c.args.pieces.now c.loop-piece.piece-index _ c.loop-piece-test.true c.loop-piece.invariant c.in_err-give_all.ensures.gives)
