@@ -1,0 +1,5 @@
+pub mod Shapes
+pub mod Sizes
+pub mod Steps
+pub mod Trees
+pub mod Types
