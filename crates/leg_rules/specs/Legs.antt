@@ -129,12 +129,12 @@ abbrev mutual
   legs_of program (branch node test on_true on_false) following =
       in_front (test_items test)
       (in_front (on_true_items node test) (legs_of_code program on_true following) ++ in_front (on_false_items node test)
-          (legs_of_code program on_false following))
+      (legs_of_code program on_false following))
   -- The body's legs end with its invariants, and the loop's others go on behind it.
   legs_of program (loop node test modifies invariants body) following =
       in_front (loop_items node test modifies invariants)
       (in_front (on_true_items node test) (legs_of_code program body (checked kinds.InvKept (own_claims invariants) ∷ [])) ++ in_front
-          (on_false_items node test) following)
+      (on_false_items node test) following)
   legs_of program (call node target name_node number arguments) following =
       in_front (call_items program node target name_node number arguments) following
 

@@ -6,6 +6,7 @@ pub mod Numbering
 pub mod Store
 pub mod Sequents
 pub mod Answers
+pub mod Typed
 pub mod Laws
 pub mod LegExamples
 pub mod SequentExamples

@@ -45,7 +45,7 @@ step_of claim = proof (step_then (line 1 claim 18 []) no_steps)
 abbrev pub accepting_of : ℕ → List ValueType → List (Tree ℕ) → Tree ℕ → Obligation
 accepting_of item types facts claim =
     to_accept item (record { types = types; records = []; facts = facts; goal = truth_literal true }) (steps.step_then
-        (steps.line 1 claim 18 []) steps.no_steps)
+    (steps.line 1 claim 18 []) steps.no_steps)
 
 abbrev pub showing : ℕ → List ValueType → List (Tree ℕ) → Tree ℕ → Obligation
 showing item types facts goal = to_show item kinds.Assert (record { types = types; records = []; facts = facts; goal = goal })
@@ -86,7 +86,7 @@ pub record SequentExamples : Type 0 where
   -- A Let takes its symbol where its block begins. The outermost claims are facts behind the proof, and what stands in a block is none.
   pub let_and_facts :
       obligations (leg_of (proof (step_then (block 1 true 2 (le y (name (let_symbol 1))) (step_then (line 3 (le x y) 18 []) no_steps)) (step_then (line 4
-          (le y y) 18 []) no_steps))
+      (le y y) 18 []) no_steps))
       ∷ check kinds.Assert (le x x) ∷ [])) ≡
       to_accept 0 (record { types = number_type ∷ number_type ∷ number_type ∷ []; records = []; facts = []; goal = truth_literal true })
       (steps.step_then (steps.block 1 (Some 0) 2 (le (name 1) (name 0)) (steps.step_then (steps.line 3 (le (name 2) (name 1)) 18 []) steps.no_steps))
