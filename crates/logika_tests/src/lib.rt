@@ -1,5 +1,0 @@
-//! Texts and what the program prints for them.
-#![tactic(auto)]
-
-#[cfg(test)]
-mod verdicts;
