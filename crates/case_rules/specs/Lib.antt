@@ -1,0 +1,4 @@
+pub mod Reduced
+pub mod Reads
+pub mod Cases
+pub mod Laws
