@@ -1,0 +1,4 @@
+pub mod Exprs
+pub mod Sizes
+pub mod Shapes
+pub mod Codes

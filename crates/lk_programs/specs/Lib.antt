@@ -1,0 +1,4 @@
+pub mod Expr
+pub mod Shape
+pub mod Program
+pub mod LegData
