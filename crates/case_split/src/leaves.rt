@@ -21,8 +21,10 @@ pub fn cases(alloc: Global, sequent: &Sequent) -> Result<Leaves, SplitEnd>
     ensures ok { IfOk result (λ it. AreCases (case_trees it.leaves) (cases (sequent_of sequent.now))) }
     ensures err { IfErr result (λ end. IsSplitEnd end (cases (sequent_of sequent.now))) }
 {
-    let facts = cases_of_facts(alloc, sequent)?;
-    let goal = cases_of(alloc, sequent, &sequent.goal, false)?;
+    let (facts, goal) = owned_results::both(
+        cases_of_facts(alloc, sequent),
+        cases_of(alloc, sequent, &sequent.goal, false),
+    )?;
     let leaves = both(alloc, facts, goal)?;
     Ok(Leaves {
         leaves: Items::from_vec(leaves),

@@ -10,7 +10,7 @@ use crate::joining::{both, either};
 use lk_terms::{Sequent, Shape, Term, copy};
 use slang_values::{Binary, Unary};
 use sqlite_items::Items;
-use std::alloc::Global;
+use std::alloc::{AllocError, Global};
 use term_sorts::{is_number, is_truth};
 
 /// The one case of a literal.
@@ -23,11 +23,16 @@ fn literal(alloc: Global, term: Term, holds: bool) -> Result<Vec<Items<Term>>, S
     } else {
         Term::unary(alloc, Unary::Not, term)?
     };
-    let mut literals = Items::new(alloc);
-    literals.push(literal)?;
-    let mut cases = Vec::new(alloc);
-    cases.push(literals)?;
-    Ok(cases)
+    let literals = Items::from_vec(only(alloc, literal)?);
+    Ok(only(alloc, literals)?)
+}
+
+fn only<T: Drop>(alloc: Global, item: T) -> Result<Vec<T>, AllocError>
+    ensures { IfOk result (λ it. it.items ≡ item ∷ []) }
+{
+    let mut items = Vec::new(alloc);
+    items.push(item)?;
+    Ok(items)
 }
 
 /// The one case of a term over two parts.
@@ -41,7 +46,7 @@ fn relation(
     ensures ok { IfOk result (λ it. AreCases (case_trees it.items) (one_literal (signed holds (binary op (tree a.now) (tree b.now))))) }
     ensures err { IsOkUnless result SplitEnd.NoMemory }
 {
-    let (a, b) = (copy(alloc, a)?, copy(alloc, b)?);
+    let (a, b) = owned_results::both(copy(alloc, a), copy(alloc, b))?;
     literal(alloc, Term::binary(alloc, op, a, b)?, holds)
 }
 
@@ -120,8 +125,10 @@ fn cases_of_equality(
     if has_truth(sequent, a) {
         cases_of_same(alloc, sequent, a, b, holds)
     } else if !holds && has_number(sequent, a) {
-        let less = relation(alloc, Binary::Lt, a, b, true)?;
-        let greater = relation(alloc, Binary::Lt, b, a, true)?;
+        let (less, greater) = owned_results::both(
+            relation(alloc, Binary::Lt, a, b, true),
+            relation(alloc, Binary::Lt, b, a, true),
+        )?;
         either(less, greater)
     } else {
         relation(alloc, Binary::Eq, a, b, holds)
@@ -142,8 +149,10 @@ fn cases_of_same(
     ensures err { IfErr result
         (λ end. IsSplitEnd end (same_cases holds (λ h. cases_in sequent.now h (tree a.now)) (λ h. cases_in sequent.now h (tree b.now)))) }
 {
-    let first_true = cases_of_both(alloc, sequent, a, true, b, holds)?;
-    let first_false = cases_of_both(alloc, sequent, a, false, b, !holds)?;
+    let (first_true, first_false) = owned_results::both(
+        cases_of_both(alloc, sequent, a, true, b, holds),
+        cases_of_both(alloc, sequent, a, false, b, !holds),
+    )?;
     either(first_true, first_false)
 }
 
@@ -162,8 +171,10 @@ fn cases_of_both(
     ensures err { IfErr result
         (λ end. IsSplitEnd end (both (cases_in sequent.now a_holds (tree a.now)) (cases_in sequent.now b_holds (tree b.now)))) }
 {
-    let lefts = cases_of(alloc, sequent, a, a_holds)?;
-    let rights = cases_of(alloc, sequent, b, b_holds)?;
+    let (lefts, rights) = owned_results::both(
+        cases_of(alloc, sequent, a, a_holds),
+        cases_of(alloc, sequent, b, b_holds),
+    )?;
     both(alloc, lefts, rights)
 }
 
@@ -182,8 +193,10 @@ fn cases_of_either(
     ensures err { IfErr result
         (λ end. IsSplitEnd end (cases_in sequent.now a_holds (tree a.now) ++ cases_in sequent.now b_holds (tree b.now))) }
 {
-    let lefts = cases_of(alloc, sequent, a, a_holds)?;
-    let rights = cases_of(alloc, sequent, b, b_holds)?;
+    let (lefts, rights) = owned_results::both(
+        cases_of(alloc, sequent, a, a_holds),
+        cases_of(alloc, sequent, b, b_holds),
+    )?;
     either(lefts, rights)
 }
 
