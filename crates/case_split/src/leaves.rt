@@ -5,7 +5,7 @@ ghost use Rattle.case_split.specs.Split.{AreCases, IsSplitEnd, case_trees, liter
 
 use crate::end::SplitEnd;
 use crate::joining::both;
-use crate::splitting::cases_of;
+use crate::splitting::{cases_of, only};
 use lk_terms::{Sequent, Term};
 use sqlite_items::Items;
 use std::alloc::Global;
@@ -36,11 +36,10 @@ fn cases_of_facts(alloc: Global, sequent: &Sequent) -> Result<Vec<Items<Term>>, 
     ensures ok { IfOk result (λ it. AreCases (case_trees it.items) (cases_of_terms sequent.now (literal_trees sequent.now.facts))) }
     ensures err { IfErr result (λ end. IsSplitEnd end (cases_of_terms sequent.now (literal_trees sequent.now.facts))) }
 {
-    let mut leaves = Vec::new(alloc);
-    leaves.push(Items::new(alloc))?;
+    let mut leaves = only(alloc, Items::new(alloc))?;
     for fact in sequent.facts.as_slice() {
-        let more = cases_of(alloc, sequent, fact, true)?;
-        leaves = both(alloc, leaves, more)?;
+        let (before, more) = owned_results::both(Ok(leaves), cases_of(alloc, sequent, fact, true))?;
+        leaves = both(alloc, before, more)?;
     }
     Ok(leaves)
 }

@@ -27,7 +27,8 @@ fn literal(alloc: Global, term: Term, holds: bool) -> Result<Vec<Items<Term>>, S
     Ok(only(alloc, literals)?)
 }
 
-fn only<T: Drop>(alloc: Global, item: T) -> Result<Vec<T>, AllocError>
+/// A list of one item.
+pub fn only<T: Drop>(alloc: Global, item: T) -> Result<Vec<T>, AllocError>
     ensures { IfOk result (λ it. it.items ≡ item ∷ []) }
 {
     let mut items = Vec::new(alloc);
