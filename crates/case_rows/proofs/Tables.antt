@@ -1,5 +1,5 @@
 -- Rows, and their atoms in step with them.
-use Rattle.std.proofs.Common.{◌≡◌, ℕ, ◌+◌, ◌<◌, List, [], ◌∷◌, ◌++◌, map, length, get_or, take, sym, ap, ◌∙◌}
+use Rattle.std.proofs.Common.{◌≡◌, ℕ, ◌+◌, ◌<◌, List, [], ◌∷◌, ◌++◌, map, length, get_or, take, sym, ap, ap₂, ◌∙◌}
 use Rattle.std.proofs.lemmas.Grind.{flat_map-append}
 use Rattle.std.proofs.lemmas.List.{map-append, append-nil, append_assoc}
 use Rattle.slang_values.specs.Tree.{Tree}
@@ -47,8 +47,7 @@ pub in_step-more : (rows more : List AtomRow) (ts us : List (Tree ℕ)) → ts �
 in_step-more rows more ts us h e =
     e ∙ ap (λ xs. with_atoms xs (atoms_in more)) h ∙ sym (with_atoms-append [] (atoms_in rows) (atoms_in more)) ∙ ap (with_atoms []) (sym (flat_map-append atoms_of_row rows more))
 
-pub rows-two : (old one two : List TermRow) (r s : TermRow) (x y : AtomRow) → one ≡ old ++ r ∷ [] → two ≡ one ++ s ∷ [] → row_of r ≡ x → row_of s ≡ y → rows_of two ≡ rows_of old ++ (x ∷ y ∷ [])
-rows-two old one two r s x y e f p q =
-    ap rows_of (f ∙ ap (λ rs. rs ++ s ∷ []) e ∙ append_assoc old (r ∷ []) (s ∷ []))
-    ∙ map-append row_of old (r ∷ s ∷ [])
-    ∙ (λ i. rows_of old ++ (p i ∷ q i ∷ []))
+pub rows-and-one : (old one two : List TermRow) (s : TermRow) (x y : AtomRow) → rows_of one ≡ rows_of old ++ x ∷ [] → two ≡ one ++ s ∷ [] → row_of s ≡ y →
+    rows_of two ≡ rows_of old ++ (x ∷ y ∷ [])
+rows-and-one old one two s x y e f q =
+    ap rows_of f ∙ map-append row_of one (s ∷ []) ∙ ap₂ (λ rs z. rs ++ z ∷ []) e q ∙ append_assoc (rows_of old) (x ∷ []) (y ∷ [])

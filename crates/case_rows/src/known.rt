@@ -1,4 +1,4 @@
-ghost use Rattle.std.specs.Prelude.{◌≡◌, ◌≤ℤ◌, ◌++◌, pos, IfOk, OnOk, true};
+ghost use Rattle.std.specs.Prelude.{◌≡◌, ◌≤◌, ◌^◌, ◌≤ℤ◌, [], ◌∷◌, ◌++◌, pos, unsigned_abs, IfOk, OnOk, true};
 ghost use Rattle.slang_values.specs.Tree.{unary, binary};
 ghost use Rattle.slang_values.specs.declared.operators.Binary as binary_specs;
 ghost use Rattle.tree_forms.specs.Form as forms;
@@ -10,6 +10,7 @@ ghost use Rattle.case_rows.specs.Said.{quotient_rows, known_rows, IsNarrowKnown}
 
 use crate::NoMemory;
 use crate::term_row::{TermRow, at_least, at_most, narrow_form};
+use owned_results::both;
 use slang_values::{Binary, Unary};
 use std::alloc::Global;
 use term_forms::Form;
@@ -92,6 +93,28 @@ pub fn has_rows(atom: &Term) -> bool
     }
 }
 
+/// The atom alone, as a form.
+fn form_of_copy(alloc: Global, atom: &Term) -> Result<Form, NoMemory>
+    ensures { IfOk result (λ f. form_of f ≡ forms.atom_form (tree atom.now)) }
+{
+    Form::of_atom(alloc, copy(alloc, atom)?)
+}
+
+/// Adds the row that the form is at least the limit.
+fn push_at_least(
+    alloc: Global,
+    form: &Form,
+    limit: i128,
+    rows: &mut Vec<TermRow>,
+) -> Result<(), NoMemory>
+    requires room { HasRoom (form_of form.now) }
+    requires limit { unsigned_abs limit ≤ 2 ^ 60 }
+    ensures { OnOk result (rows_of rows.new.items ≡ rows_of rows.old.items ++ row_specs.at_least (form_of form.now) limit ∷ []) }
+{
+    rows.push(at_least(alloc, form, limit)?)?;
+    Ok(())
+}
+
 /// `a - c * t`, where `t` is the quotient of `a` by `c`.
 fn rest_of(alloc: Global, a: &Term, c: i128, quotient: &Term) -> Result<Form, NoMemory>
     requires dividend { forms.is_narrow (tree a.now) ≡ true }
@@ -99,8 +122,7 @@ fn rest_of(alloc: Global, a: &Term, c: i128, quotient: &Term) -> Result<Form, No
     ensures form { IfOk result (λ f. form_of f ≡ row_specs.rest_form (tree a.now) c (tree quotient.now)) }
     ensures room { IfOk result (λ f. HasRoom (form_of f)) }
 {
-    let dividend = narrow_form(alloc, a)?;
-    let atom = Form::of_atom(alloc, copy(alloc, quotient)?)?;
+    let (dividend, atom) = both(narrow_form(alloc, a), form_of_copy(alloc, quotient))?;
     dividend.plus(atom.times(-c))
 }
 
@@ -119,7 +141,7 @@ fn push_rows_of_quotient(
         ≡ rows_of rows.old.items ++ quotient_rows (tree a.now) c (tree quotient.now)) }
 {
     let rest = rest_of(alloc, a, c, quotient)?;
-    rows.push(at_least(alloc, &rest, 1 - c)?)?;
+    push_at_least(alloc, &rest, 1 - c, rows)?;
     rows.push(at_most(rest, c - 1))?;
     Ok(())
 }
@@ -135,9 +157,8 @@ pub fn push_rows_of_atom(
 {
     match known_of(atom) {
         Known::Size => {
-            let size = Form::of_atom(alloc, copy(alloc, atom)?)?;
-            rows.push(at_least(alloc, &size, 0)?)?;
-            Ok(())
+            let size = form_of_copy(alloc, atom)?;
+            push_at_least(alloc, &size, 0, rows)
         }
         Known::Quotient(a, c) => push_rows_of_quotient(alloc, a, c, atom, rows),
         Known::Nothing => Ok(()),

@@ -11,6 +11,7 @@ ghost use Rattle.case_rows.specs.Said.{relation_rows, IsNarrowRelation};
 
 use crate::NoMemory;
 use crate::term_row::{TermRow, at_least, at_most, narrow_form};
+use owned_results::both;
 use slang_values::{Binary, Unary};
 use sqlite_items::Items;
 use std::alloc::Global;
@@ -140,8 +141,7 @@ fn difference_of(alloc: Global, a: &Term, b: &Term) -> Result<Form, NoMemory>
     ensures form { IfOk result (λ f. form_of f ≡ row_specs.difference (tree a.now) (tree b.now)) }
     ensures room { IfOk result (λ f. HasRoom (form_of f)) }
 {
-    let left = narrow_form(alloc, a)?;
-    let right = narrow_form(alloc, b)?;
+    let (left, right) = both(narrow_form(alloc, a), narrow_form(alloc, b))?;
     difference(left, right)
 }
 

@@ -1,4 +1,4 @@
-ghost use Rattle.std.specs.Prelude.{◌≡◌, IfOk, IfErr, true, map};
+ghost use Rattle.std.specs.Prelude.{◌≡◌, ◌≤◌, ◌^◌, IfOk, IfErr, IsOk, length, true, map};
 ghost use Rattle.closing.specs.Rows as row_specs;
 ghost use Rattle.case_rows.specs.declared.end.RowsEnd.TheVariants.{NoMemory};
 ghost use Rattle.case_rows.specs.Views.{row_of};
@@ -16,7 +16,7 @@ use std::alloc::Global;
 use term_forms::Part;
 
 impl System {
-    ghost use Rattle.std.specs.Prelude.{◌≡◌, IfOk, IsErrOf, true, false};
+    ghost use Rattle.std.specs.Prelude.{◌≡◌, [], IfOk, OnOk, IsErrOf, true, false};
     ghost use Rattle.std.specs.List.{AllByRecursion, list_all};
     ghost use Rattle.lin_rows.specs.Inequality.{IsCanonical};
     ghost use Rattle.lin_rows.specs.Inequality as inequality;
@@ -34,6 +34,21 @@ impl System {
         ensures wide { IsErrOf result Wide → list_all inequality.is_within (row_specs.numbered_rows (rows_of self.now.rows.items)) ≡ false }
     {
         let mut rows = Vec::with_capacity(alloc, self.rows.len())?;
+        match self.add_numbered_rows(alloc, &mut rows) {
+            Ok(()) => Ok(rows),
+            Err(end) => Err(end),
+        }
+    }
+
+    /// Adds the rows with their atoms numbered to none.
+    fn add_numbered_rows(&self, alloc: Global, rows: &mut Vec<Row>) -> Result<(), RowsEnd>
+        requires in_step { IsInStep self.now }
+        requires canonical { AllByRecursion (λ row. IsCanonical row.parts) (row_specs.numbered_rows (rows_of self.now.rows.items)) }
+        requires empty { rows.old.items ≡ [] }
+        ensures rows { OnOk result (rows.new.items ≡ row_specs.numbered_rows (rows_of self.now.rows.items)) }
+        ensures within { OnOk result (list_all inequality.is_within rows.new.items ≡ true) }
+        ensures wide { IsErrOf result Wide → list_all inequality.is_within (row_specs.numbered_rows (rows_of self.now.rows.items)) ≡ false }
+    {
         for row in &self.rows {
             let numbered = numbered(alloc, &self.atoms, row)?;
             if !is_within(&numbered) {
@@ -41,7 +56,7 @@ impl System {
             }
             rows.push(numbered)?;
         }
-        Ok(rows)
+        Ok(())
     }
 }
 
@@ -72,6 +87,8 @@ fn numbered_part(atoms: &[Atom], part: &Part) -> Result<RowPart, RowsEnd>
     requires there { row_specs.is_among (atom_trees atoms.now) (tree part.now.atom) ≡ true }
     ensures part { IfOk result (λ it. it ≡ record { var = row_specs.place_of (atom_trees atoms.now) (tree part.now.atom); times = part.now.times }) }
     ensures err { IfErr result (λ e. e ≡ NoMemory) }
+    // It is refused only where there are more atoms than numbers of 32 bits.
+    ensures small { length atoms.now ≤ 2 ^ 32 → IsOk result }
 {
     match find(atoms, &part.atom) {
         Ok(place) => {

@@ -1,4 +1,4 @@
-ghost use Rattle.std.specs.Prelude.{◌≡◌, ◌^◌, ◌≤◌, negsuc, IfOk, true, map, unsigned_abs};
+ghost use Rattle.std.specs.Prelude.{◌≡◌, ◌^◌, ◌≤◌, ◌++◌, negsuc, IfOk, OnOk, true, map, unsigned_abs};
 ghost use Rattle.tree_forms.specs.Form as forms;
 ghost use Rattle.term_trees.specs.Term.{tree};
 ghost use Rattle.term_forms.specs.Form.{part_of, form_of, HasRoom, TimesWithin};
@@ -59,10 +59,20 @@ fn negative_parts(alloc: Global, parts: &[Part]) -> Result<Vec<Part>, NoMemory>
     ensures { IfOk result (λ v. map part_of v.items ≡ map (forms.multiplied (negsuc 0)) (map part_of parts.now)) }
 {
     let mut negatives = Vec::with_capacity(alloc, parts.len())?;
+    add_negatives(alloc, &mut negatives, parts)?;
+    Ok(negatives)
+}
+
+/// Adds the parts times -1.
+fn add_negatives(alloc: Global, negatives: &mut Vec<Part>, parts: &[Part]) -> Result<(), NoMemory>
+    requires { TimesWithin (2 ^ 126) (map part_of parts.now) }
+    ensures { OnOk result (map part_of negatives.new.items
+        ≡ map part_of negatives.old.items ++ map (forms.multiplied (negsuc 0)) (map part_of parts.now)) }
+{
     for part in parts {
         negatives.push(negative_part(alloc, part)?)?;
     }
-    Ok(negatives)
+    Ok(())
 }
 
 fn negative_part(alloc: Global, part: &Part) -> Result<Part, NoMemory>

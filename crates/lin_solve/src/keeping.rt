@@ -1,6 +1,6 @@
 //! The rows that stand, as lines of the certificate that grows with them.
 
-ghost use Rattle.std.specs.Prelude.{◌≡◌, ◌<◌, ◌++◌, ◌∷◌, [], List, fold, length, Some, IfOk, IfErr, OnOk, IsTrue};
+ghost use Rattle.std.specs.Prelude.{◌≡◌, ◌<◌, ◌≤◌, ◌^◌, ◌++◌, ◌∷◌, [], List, fold, length, Some, IfOk, IfErr, OnOk, OnErr, IsTrue};
 ghost use Rattle.std.specs.List.{list_any};
 ghost use Rattle.lin_rows.specs.Same.{same};
 ghost use Rattle.lin_rows.specs.Inequality.{is_within};
@@ -82,6 +82,17 @@ impl Kept {
     }
 }
 
+/// The number as one of 32 bits. It is refused only from 2^32 on.
+pub fn small_number(number: usize) -> Result<u32, AllocError>
+    ensures same { IfOk result (λ k. k ≡ number) }
+    ensures refused { OnErr result (2 ^ 32 ≤ number) }
+{
+    if number > u32::MAX as usize {
+        return Err(AllocError);
+    }
+    Ok(number as u32)
+}
+
 /// Adds a line, and answers its number.
 pub fn push(lines: &mut Vec<CertLine>, step: CertStep, row: Row) -> Result<u32, SolveEnd>
     ensures ok { IfOk result (λ k. (k ≡ length lines.old.items)
@@ -89,11 +100,9 @@ pub fn push(lines: &mut Vec<CertLine>, step: CertStep, row: Row) -> Result<u32, 
     ensures end { IfErr result (λ e. e ≡ SolveEnd.NoMemory) }
 {
     let number = lines.len();
-    if number > u32::MAX as usize {
-        return Err(SolveEnd::NoMemory);
-    }
     lines.push(CertLine { step, row })?;
-    Ok(number as u32)
+    let number = small_number(number)?;
+    Ok(number)
 }
 
 /// Whether a kept row equals this one.

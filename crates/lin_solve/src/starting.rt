@@ -10,7 +10,7 @@ ghost use Rattle.lin_solve.specs.Answers.{EndsAs};
 ghost use Rattle.lin_solve.specs.Lines.{Goes, HasTable, Stands, rows_of};
 
 use crate::SolveEnd;
-use crate::keeping::{Kept, keep, tightened_if_new};
+use crate::keeping::{Kept, keep, small_number, tightened_if_new};
 use lin_cert::{CertLine, CertStep};
 use lin_rows::Row;
 use std::alloc::Global;
@@ -46,12 +46,10 @@ fn start_row(
         (λ given. slice_get given number ≡ Some row.now)) }
     ensures end { IfErr result (λ e. EndsAs e (kept_with (rows_of lines.old.items kept.old.lines.items) (tightened row.now))) }
 {
+    let number = small_number(number)?;
     let Some(new) = tightened_if_new(alloc, lines, kept, row)? else {
         return Ok(());
     };
-    if number > u32::MAX as usize {
-        return Err(SolveEnd::NoMemory);
-    }
     let copied = row.copy(alloc)?;
-    keep(lines, kept, CertStep::Take(number as u32), copied, new)
+    keep(lines, kept, CertStep::Take(number), copied, new)
 }

@@ -1,7 +1,7 @@
 use Rattle.std.proofs.Common.{◌^◌, ◌≤◌, unsigned_abs, sym, subst}
 use Rattle.term_forms.specs.declared.form.Part.{Part}
 use Rattle.term_forms.proofs.Joining.{within_at}
-use Rattle.case_rows.proofs.term_row.negative_parts.Goals as goal
+use Rattle.case_rows.proofs.term_row.add_negatives.Goals as goal
 
 pub negative_part-requires : goal.negative_part-requires
 negative_part-requires c =

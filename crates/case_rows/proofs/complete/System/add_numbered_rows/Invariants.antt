@@ -4,7 +4,7 @@ use Rattle.lin_rows.specs.Inequality.{is_within}
 use Rattle.closing.specs.Rows.{numbered}
 use Rattle.case_rows.specs.Views.{rows_of}
 use Rattle.case_rows.specs.Atoms.{atom_trees}
-use Rattle.case_rows.proofs.complete.System.numbered_rows.Given as goal
+use Rattle.case_rows.proofs.complete.System.add_numbered_rows.Given as goal
 
 abbrev pub invariant-loop-row : goal.invariant-loop-row
 invariant-loop-row l = record {

@@ -8,7 +8,7 @@ use Rattle.case_rows.specs.Atoms.{atom_trees}
 use Rattle.case_rows.specs.Numbered.{CanBeNumbered}
 use Rattle.case_rows.proofs.Narrow.{row-at}
 use Rattle.case_rows.proofs.Numbers.{can_be_numbered, not-within}
-use Rattle.case_rows.proofs.complete.System.numbered_rows.Goals as goal
+use Rattle.case_rows.proofs.complete.System.add_numbered_rows.Goals as goal
 
 pub numbered-requires : goal.numbered-requires
 numbered-requires c =
