@@ -1,4 +1,5 @@
-ghost use Rattle.std.specs.Prelude.{◌≡◌, ◌++◌, ◌∷◌, [], length, IfOk, OnOk};
+ghost use Rattle.std.specs.Prelude.{◌≡◌, ◌++◌, ◌∷◌, ◌<◌, ◌^◌, [], length, IfOk, OnOk};
+ghost use Rattle.std.specs.Result.{OkIff};
 ghost use Rattle.lk_ast.specs.ExprTree.{expr_tree, place_of};
 ghost use Rattle.type_check.specs.Expressions.{node_at};
 
@@ -8,7 +9,7 @@ use std::alloc::AllocError;
 
 /// A count as a number of the program, where there is one.
 pub fn number(count: usize) -> Result<u32, AllocError>
-    ensures { IfOk result (λ n. n ≡ count) }
+    ensures { OkIff result (count < 2 ^ 32) count }
 {
     u32::try_from(count).map_err(|_| AllocError)
 }

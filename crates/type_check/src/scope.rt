@@ -1,4 +1,5 @@
-ghost use Rattle.std.specs.Prelude.{◌≡◌, ◌+◌, ◌++◌, ◌∷◌, [], false, length, map, IfOk, IfErr, OnOk};
+ghost use Rattle.std.specs.Prelude.{◌≡◌, ◌+◌, ◌++◌, ◌∷◌, ◌<◌, ◌^◌, [], false, length, map, IfOk, IfErr, OnOk};
+ghost use Rattle.std.specs.Result.{OkIff};
 ghost use Rattle.std.specs.List.{All, IsDistinct, list_any};
 ghost use Rattle.std.specs.Str.{bytes_eq};
 ghost use Rattle.lk_ast.specs.WellTyped.{IsVariableType};
@@ -58,7 +59,7 @@ pub fn params_of(alloc: Global, params: &[Param]) -> Result<(Variables, Items<Fi
 
 /// How many variables a method has, the result left out.
 pub fn local_count(params: &[Param], body: &[Stmt]) -> Result<u32, AllocError>
-    ensures { IfOk result (λ count. count ≡ length params.now + val_count body.now) }
+    ensures { let count = length params.now + val_count body.now in OkIff result (count < 2 ^ 32) count }
 {
     let mut count = number(params.len())?;
     for statement in body {

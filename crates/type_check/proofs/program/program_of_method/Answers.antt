@@ -29,7 +29,7 @@ pub parts_of-requires-clause-count : goal.parts_of-requires-clause-count
 parts_of-requires-clause-count c =
     let method = c.args.method.now in
     let params = param_variables method in
-    c.in_ok-count.ensures
+    c.in_ok-count.ensures.1
     ∙ ap (λ ps. length ps + val_count c.as_slice-3.result.now) c.as_slice-2.ensures
     ∙ ap (λ body. length method.params + val_count body) c.as_slice-3.ensures
     ∙ ap (λ n. n + val_count method.body) (sym (length-map method.params typed_param))
