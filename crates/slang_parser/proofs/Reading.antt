@@ -1,5 +1,5 @@
 -- How the machine goes on from states that the parser tells apart.
-use Rattle.std.proofs.Common.{◌≡◌, ℕ, ◌≤◌, ◌<◌, arith, List, [], ◌∷◌, Option, Some, None, true, false, cond, refl, ap, ◌∙◌, subst, ltb}
+use Rattle.std.proofs.Common.{◌≡◌, ℕ, ◌≤◌, ◌<◌, arith, List, [], ◌∷◌, Option, Some, None, true, cond, refl, ap, ◌∙◌, subst, ltb}
 use Rattle.std.specs.Prelude.{option_and_then}
 use Rattle.std.proofs.lemmas.Bool.{lt-ltb, le-ltb}
 use Rattle.slang_parser.specs.Below.{IsBelow, StopsBefore}

@@ -35,8 +35,8 @@ use Rattle.slang_parser.specs.declared.body.PartWord.TheVariants as words
 use Rattle.slang_parser.specs.declared.contract.ClauseWord.{ClauseWord}
 use Rattle.slang_parser.specs.declared.contract.ClauseWord.TheVariants.{Requiring, Ensuring}
 use Rattle.slang_tokens.specs.Tok.{Tok, sign}
-use Rattle.slang_tokens.specs.Weight.{is_light, no_counts}
-use Rattle.slang_tokens.specs.Tokens.{Tokens}
+use Rattle.slang_tokens.specs.declared.read.TokensEnd.TheVariants.{End}
+use Rattle.slang_tokens.specs.Tokens.{AreTokens}
 
 -- Lists.
 
@@ -405,16 +405,12 @@ pub record InGrammar (tokens : List Tok) (file : File) : Type 0 where
   pub spelled : file_tokens text ≡ tokens
   pub shaped : file_tree text ≡ file
 
--- how deep a text may nest
-abbrev pub weight_limit : ℕ
-weight_limit = 200
-
--- These bytes are a text with this tree: they are UTF-8, and their tokens weigh no more than the limit and are in the grammar.
+-- These bytes are a text with this tree: they are UTF-8, and their tokens go up to the end of the text and are in the grammar.
 pub record Reads (bytes : List ℕ) (file : File) : Type 0 where
   pub utf8 : IsUtf8 bytes
   pub tokens : List Tok
-  pub are_tokens : Tokens bytes tokens
-  pub light : IsTrue (is_light weight_limit no_counts tokens)
+  pub end : Place
+  pub are_tokens : AreTokens bytes tokens (End end)
   pub in_grammar : InGrammar tokens file
 
 -- bytes are read with one tree

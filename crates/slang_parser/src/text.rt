@@ -12,7 +12,7 @@ use crate::method::method;
 use crate::stop::Stop;
 use lk_ast::{Decl, Fault, File, Place};
 use slang_lexer::TokenKind;
-use slang_tokens::{Lexeme, TokensEnd, is_light, read_tokens};
+use slang_tokens::{Lexeme, TokensEnd, read_tokens};
 use sqlite_items::Items;
 use std::alloc::Global;
 
@@ -23,9 +23,6 @@ pub enum ParseEnd {
     Fault(Fault),
     NoMemory,
 }
-
-/// How deep a text may nest.
-const WEIGHT_LIMIT: u32 = 200;
 
 /// The fault of a text of another form.
 const LEFT_OUT: Fault = Fault {
@@ -97,15 +94,11 @@ fn read_text(alloc: Global, text: &str) -> Result<File, Stop>
     ensures read { IfOk result (Reads text.now) }
     ensures only { (file : Tree) → Reads text.now file → MatchResult result (λ it. it ≡ file) (λ stop. stop ≡ Stop.NoMemory) }
 {
-    let tokens = match read_tokens(alloc, text) {
-        Ok(tokens) => tokens,
-        Err(TokensEnd::Fault(_)) => return Err(Stop::Refused),
-        Err(TokensEnd::NoMemory) => return Err(Stop::NoMemory),
-    };
-    if !is_light(alloc, WEIGHT_LIMIT, &tokens)? {
-        return Err(Stop::Refused);
+    let tokens = read_tokens(alloc, text)?;
+    match tokens.end {
+        TokensEnd::End(_) => file(alloc, &tokens.list),
+        TokensEnd::Fault(_) => Err(Stop::Refused),
     }
-    file(alloc, &tokens)
 }
 
 /// A law: bytes are read with one tree.

@@ -3,4 +3,4 @@ use Rattle.slang_tokens.specs.declared.lines.Front.{Front as Kept}
 use Rattle.slang_tokens.specs.Lines.{Front}
 
 abbrev pub front : Kept → Front
-front kept = record { outer = kept.outer.items; grouped = kept.grouped; able = kept.able; waiting = kept.waiting }
+front kept = record { levels = kept.levels.items; last = kept.last; annotated = kept.annotated; tested = kept.tested; waiting = kept.waiting }

@@ -1,7 +1,10 @@
 pub mod Tok
 pub mod Places
-pub mod Lines
-pub mod Weight
+pub mod Kinds
+pub mod Newlines
+pub mod Weights
 pub mod Tokens
+pub mod Lines
 pub mod Front
+pub mod Weight
 pub mod Counts

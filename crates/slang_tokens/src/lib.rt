@@ -1,7 +1,8 @@
-//! The tokens of a text that its grammar reads: each with its place, without the newlines that end no statement, and
-//! how deep they nest.
+//! The tokens of a text that its grammar reads: each with its place, without the newlines that end no statement, up to
+//! the first that no text holds.
 #![tactic(auto)]
 
+mod kinds;
 mod lexeme;
 mod lines;
 mod places;
@@ -9,5 +10,4 @@ mod read;
 mod weight;
 
 pub use lexeme::Lexeme;
-pub use read::{TokensEnd, read_tokens};
-pub use weight::is_light;
+pub use read::{NESTS_TOO_DEEP, Tokens, TokensEnd, read_tokens};

@@ -1,49 +1,84 @@
-ghost use Rattle.std.specs.Prelude.{◌≡◌, ◌++◌, ◌∷◌, [], OnOk, OnErr, IfOk};
+ghost use Rattle.std.specs.Prelude.{◌≡◌, ◌++◌, ◌∷◌, [], OnOk};
 ghost use Rattle.slang_tokens.specs.Tok.{tok, toks};
+ghost use Rattle.slang_tokens.specs.Newlines as rule;
 ghost use Rattle.slang_tokens.specs.Lines as spec;
 ghost use Rattle.slang_tokens.specs.Front.{front};
 
+use crate::kinds::{closes, heads_test, is_line_end, opens};
 use crate::lexeme::Lexeme;
 use lk_ast::Place;
 use slang_lexer::TokenKind;
 use std::alloc::{AllocError, Global};
 
+/// The inside of an open bracket.
+#[derive(Clone, Copy, Debug, PartialEq, Eq)]
+pub enum Level {
+    /// Of `[` or `(`.
+    Grouped,
+    /// Of the `(` of a test.
+    Test,
+    /// Of `{`.
+    Block,
+}
+
 /// What the tokens so far say of the next newline.
 #[derive(Drop)]
 pub struct Front {
-    /// For each bracket that is open, whether the tokens before it are directly inside round or square brackets.
-    pub outer: Vec<bool>,
-    pub grouped: bool,
-    /// The last token can end a statement.
-    pub able: bool,
-    /// A newline that stands if the next token can begin a statement.
+    /// The levels that are open, the innermost last.
+    pub levels: Vec<Level>,
+    /// The kind of the last token, that of the end before the first.
+    pub last: TokenKind,
+    /// The last token is the `datatype` of `@datatype`.
+    pub annotated: bool,
+    /// The last token is the `)` of a test.
+    pub tested: bool,
+    /// A newline that stands if the next token takes it.
     pub waiting: Option<Place>,
 }
 
-fn is_line_end(kind: TokenKind) -> bool
-    ensures { result ≡ spec.is_line_end kind }
+/// What such a bracket opens behind such a token.
+fn opened(kind: TokenKind, last: TokenKind) -> Level
+    ensures { result ≡ rule.opened kind last }
 {
-    kind == TokenKind::Newline || kind == TokenKind::Semicolon
+    if kind == TokenKind::LeftBrace {
+        Level::Block
+    } else if kind == TokenKind::LeftParen && heads_test(last) {
+        Level::Test
+    } else {
+        Level::Grouped
+    }
 }
 
-fn groups(kind: TokenKind) -> bool
-    ensures { result ≡ spec.groups kind }
+fn is_grouped(level: Option<Level>) -> bool
+    ensures { result ≡ rule.is_grouped level }
 {
-    kind == TokenKind::LeftParen || kind == TokenKind::LeftBracket
+    match level {
+        Some(Level::Grouped) | Some(Level::Test) => true,
+        Some(Level::Block) | None => false,
+    }
 }
 
-pub fn opens(kind: TokenKind) -> bool
-    ensures { result ≡ spec.opens kind }
+fn is_test(level: Option<Level>) -> bool
+    ensures { result ≡ rule.is_test level }
 {
-    groups(kind) || kind == TokenKind::LeftBrace
+    match level {
+        Some(Level::Test) => true,
+        Some(Level::Grouped) | Some(Level::Block) | None => false,
+    }
 }
 
-pub fn closes(kind: TokenKind) -> bool
-    ensures { result ≡ spec.closes kind }
+/// Whether the token is the `datatype` of `@datatype`.
+fn ends_annotation(last: TokenKind, token: Lexeme<'_>) -> bool
+    ensures { result ≡ rule.ends_annotation_with last (tok token.entry) }
 {
-    kind == TokenKind::RightParen
-        || kind == TokenKind::RightBracket
-        || kind == TokenKind::RightBrace
+    token.kind == TokenKind::Name && token.text == "datatype" && last == TokenKind::At
+}
+
+/// Whether such a token takes a newline before it.
+fn takes_newline(kind: TokenKind, tested: bool) -> bool
+    ensures { result ≡ rule.takes_newline kind tested }
+{
+    kind.begins_statement() && !(kind == TokenKind::LeftBrace && tested)
 }
 
 impl Front {
@@ -51,9 +86,10 @@ impl Front {
         ensures { front result ≡ spec.beginning }
     {
         Front {
-            outer: Vec::new(alloc),
-            grouped: false,
-            able: false,
+            levels: Vec::new(alloc),
+            last: TokenKind::End,
+            annotated: false,
+            tested: false,
             waiting: None,
         }
     }
@@ -64,18 +100,18 @@ impl Front {
         tokens: &mut Vec<Lexeme<'a>>,
         token: Lexeme<'a>,
     ) -> Result<(), AllocError>
-        ensures stand { OnOk result (toks tokens.new.items ≡ toks tokens.old.items ++ spec.standing (front self.old) (tok token.entry)) }
+        ensures stand { OnOk result (toks tokens.new.items ≡ toks tokens.old.items ++ spec.standing_with (front self.old) (tok token.entry)) }
         ensures after { OnOk result (front self.new ≡ spec.after (front self.old) (tok token.entry)) }
     {
         if is_line_end(token.kind) {
             self.note(token);
             return Ok(());
         }
-        if token.kind.begins_statement() {
+        if takes_newline(token.kind, self.tested) {
             self.end_line(tokens)?;
         }
         tokens.push(token)?;
-        self.pass(token.kind)
+        self.pass(token)
     }
 
     /// Adds the newline that waits.
@@ -92,10 +128,17 @@ impl Front {
         Ok(())
     }
 
+    fn innermost(&self) -> Option<Level>
+        ensures { result ≡ rule.innermost self.now.levels.items }
+    {
+        self.levels.last().copied()
+    }
+
     fn note(&mut self, token: Lexeme<'_>)
         ensures { front self.new ≡ spec.noted (front self.old) (tok token.entry) }
     {
-        if self.able && !self.grouped {
+        let able = self.last.ends_statement() && !self.annotated;
+        if able && !is_grouped(self.innermost()) {
             let place = if token.kind == TokenKind::Semicolon {
                 token.place
             } else {
@@ -105,16 +148,19 @@ impl Front {
         }
     }
 
-    fn pass(&mut self, kind: TokenKind) -> Result<(), AllocError>
-        ensures { OnOk result (front self.new ≡ spec.passed (front self.old) kind) }
+    fn pass(&mut self, token: Lexeme<'_>) -> Result<(), AllocError>
+        ensures { OnOk result (front self.new ≡ spec.passed (front self.old) (tok token.entry)) }
     {
-        if opens(kind) {
-            self.outer.push(self.grouped)?;
-            self.grouped = groups(kind);
-        } else if closes(kind) {
-            self.grouped = self.outer.pop().unwrap_or(false);
+        let annotated = ends_annotation(self.last, token);
+        let tested = token.kind == TokenKind::RightParen && is_test(self.innermost());
+        if opens(token.kind) {
+            self.levels.push(opened(token.kind, self.last))?;
+        } else if closes(token.kind) {
+            self.levels.pop();
         }
-        self.able = kind.ends_statement();
+        self.last = token.kind;
+        self.annotated = annotated;
+        self.tested = tested;
         self.waiting = None;
         Ok(())
     }

@@ -1,4 +1,4 @@
-ghost use Rattle.std.specs.Prelude.{◌≡◌, ◌++◌, ◌∷◌, [], List, ℕ, IfOk};
+ghost use Rattle.std.specs.Prelude.{◌≡◌, ◌+◌, ◌<◌, ◌^◌, ◌++◌, ◌∷◌, [], List, ℕ, IfOk, IsOk};
 ghost use Rattle.slang_tokens.specs.Places.{place_behind};
 
 use lk_ast::Place;
@@ -17,7 +17,8 @@ pub fn moved(place: Place, bytes: &[u8]) -> Result<Place, AllocError>
 
 /// The place behind one more byte.
 fn passed(place: Place, byte: u8) -> Result<Place, AllocError>
-    ensures { IfOk result (λ place'. (before : List ℕ) → place ≡ place_behind before → place' ≡ place_behind (before ++ byte ∷ [])) }
+    ensures behind { IfOk result (λ place'. (before : List ℕ) → place ≡ place_behind before → place' ≡ place_behind (before ++ byte ∷ [])) }
+    ensures fits { place.line + 1 < 2 ^ 32 → place.col + 1 < 2 ^ 32 → IsOk result }
 {
     if byte == b'\n' {
         let line = place.line.checked_add(1).ok_or(AllocError)?;

@@ -2,43 +2,10 @@ ghost use Rattle.std.specs.Prelude.{◌≡◌, ◌+◌, ◌≤◌, ◌<◌, ◌^
 ghost use Rattle.slang_tokens.specs.Tok.{toks};
 ghost use Rattle.slang_tokens.specs.Weight as spec;
 
+use crate::kinds::{begins_count, closes, is_counted, opens};
 use crate::lexeme::Lexeme;
-use crate::lines::{closes, opens};
 use slang_lexer::TokenKind;
 use std::alloc::{AllocError, Global};
-
-const COUNTED: [TokenKind; 23] = [
-    TokenKind::DoubleEquals,
-    TokenKind::NotEquals,
-    TokenKind::Less,
-    TokenKind::LessOrEqual,
-    TokenKind::Greater,
-    TokenKind::GreaterOrEqual,
-    TokenKind::Plus,
-    TokenKind::Minus,
-    TokenKind::Star,
-    TokenKind::Slash,
-    TokenKind::Percent,
-    TokenKind::Ampersand,
-    TokenKind::DoubleAmpersand,
-    TokenKind::Bar,
-    TokenKind::DoubleBar,
-    TokenKind::Bang,
-    TokenKind::DashArrow,
-    TokenKind::LongDashArrow,
-    TokenKind::LowArrow,
-    TokenKind::LongLowArrow,
-    TokenKind::ColonPlus,
-    TokenKind::Dot,
-    TokenKind::Else,
-];
-
-#[tactic(auto, unfolding(crate::specs::Weight::counted_kinds))]
-fn is_counted(kind: TokenKind) -> bool
-    ensures { result ≡ spec.is_counted kind }
-{
-    COUNTED.contains(&kind)
-}
 
 /// The counts of the levels that are open.
 #[derive(Drop)]
@@ -99,7 +66,7 @@ impl Counts {
     {
         if closes(kind) {
             self.close();
-        } else if kind == TokenKind::Comma || kind == TokenKind::Newline {
+        } else if begins_count(kind) {
             self.weight -= self.here;
             self.here = 0;
         } else if is_counted(kind) {
@@ -109,17 +76,19 @@ impl Counts {
     }
 }
 
-/// Whether no token weighs more than the limit.
-pub fn is_light(alloc: Global, limit: u32, tokens: &[Lexeme<'_>]) -> Result<bool, AllocError>
+/// How many tokens stand before the first that weighs more than the limit.
+pub fn light_len(alloc: Global, limit: u32, tokens: &[Lexeme<'_>]) -> Result<usize, AllocError>
     requires { limit + 2 < 2 ^ 32 }
-    ensures { IfOk result (λ light. light ≡ spec.is_light limit spec.no_counts (toks tokens.now)) }
+    ensures { IfOk result (λ len. len ≡ spec.light_len limit spec.no_counts (toks tokens.now)) }
 {
     let mut counts = Counts::new(alloc);
+    let mut len = 0;
     for token in tokens {
         counts.count(token.kind)?;
         if counts.weight > limit {
-            return Ok(false);
+            break;
         }
+        len += 1;
     }
-    Ok(true)
+    Ok(len)
 }

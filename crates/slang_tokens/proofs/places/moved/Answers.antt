@@ -7,7 +7,7 @@ pub loop-byte-preserved : goal.loop-byte-preserved
 loop-byte-preserved c = λ before h.
     let bytes = c.args.bytes.now in
     let i = c.loop-byte.byte-index in
-    c.in_ok-here.ensures (before ++ take i bytes) (c.loop-byte.invariant before h)
+    c.in_ok-here.ensures.behind (before ++ take i bytes) (c.loop-byte.invariant before h)
     ∙ ap place_behind (append_assoc before (take i bytes) _ ∙ ap (λ x. before ++ x) (sym (take_more bytes i 0 (omega arith))))
 
 pub returns : goal.returns

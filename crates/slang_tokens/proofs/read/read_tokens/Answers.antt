@@ -1,55 +1,36 @@
-use Rattle.std.proofs.Common.{◌≡◌, ℕ, List, ◌++◌, take, refl, ap, ◌∙◌, sym, arith}
-use Rattle.std.specs.List.{slice_range}
-use Rattle.std.proofs.lemmas.Str.{IsCharBoundary-start}
-use Rattle.slang_lexer.specs.contracts.token.TokenKind.{the_type}
-use denote.Enum.Bare.{same_true, same_false}
-use Rattle.slang_tokens.specs.Tok.{tok, toks}
-use Rattle.slang_tokens.specs.Places.{place_at, place_behind}
-use Rattle.slang_tokens.proofs.Ranges.{take_range}
-use Rattle.slang_tokens.specs.Front.{front}
-use Rattle.slang_tokens.specs.Tokens.{token_of, placed}
-use Rattle.slang_tokens.proofs.Scan.{begins_scanned, scanned_by, scanned_all, scanned_fault}
+use Rattle.std.proofs.Common.{◌≡◌, ◌<◌, false, List, length, ap, ◌∙◌, sym, subst}
+use Rattle.std.specs.Prelude.{nat_lt, get_or}
+use Rattle.slang_tokens.specs.declared.read.Tokens.{Tokens}
+use Rattle.slang_tokens.specs.declared.lexeme.Lexeme.{Lexeme}
+use Rattle.slang_tokens.specs.Tok.{toks}
+use Rattle.slang_tokens.specs.Tokens.{AreTokens, fault}
+use Rattle.slang_tokens.proofs.Cut.{len_of, kept_whole, kept_heavy, tokens_one}
 use Rattle.slang_tokens.proofs.read.read_tokens.Goals as goal
+use Rattle.slang_tokens.proofs.read.read_tokens.Goals.{in-Some, in_default}
 
-pub loop-token-init : goal.loop-token-init
-loop-token-init c = record {
-  scanned = rw (c.beginning-front.ensures, c.new-tokens.ensures.items) (begins_scanned _);
-  place = refl;
-  fits = omega arith;
-  cut = IsCharBoundary-start _ c.utf8.text;
-}
+are : (c : goal.Joined-get) → AreTokens c.args.text.now (toks c.match-get.tokens.list.items) c.match-get.tokens.end
+are c =
+    let text = c.args.text.now in
+    let items = c.in_ok-tokens.tokens.list.items in
+    let end = c.in_ok-tokens.tokens.end in
+    let len = c.in_ok-len.len in
+    let P : Tokens → Type 0 = λ t. AreTokens text (toks t.list.items) t.end in
+    let same = c.in_ok-len.ensures ∙ ap (λ (xs : List Lexeme). len_of (toks xs)) c.deref.ensures.value in
+    elim c.match-get.branch [
+      | in-Some w ↦
+          let look = w.in-Some.ensures.lookup in
+          let below = subst (λ (xs : List Lexeme). len < length xs) c.deref-2.ensures.value look.3.0 in
+          let one : w.in-Some.heavy.now ≡ get_or items len w.in-Some.heavy.now = look.1 ∙ ap (λ (xs : List Lexeme). get_or xs len w.in-Some.heavy.now) c.deref-2.ensures.value in
+          subst P (sym w.tokens-is)
+          (subst (λ xs. AreTokens text (toks xs) (fault 5 w.in-Some.heavy.now.place)) (sym w.truncate.ensures.items)
+          (kept_heavy text items end len w.in-Some.heavy.now c.in_ok-tokens.ensures.found same below one))
+      | in_default w ↦
+          let past : nat_lt len (length items) ≡ false = sym (w.in_default.ensures.lookup.0 ∙ ap (λ (xs : List Lexeme). nat_lt len (length xs)) c.deref-2.ensures.value) in
+          subst P (sym w.tokens-is) (kept_whole text items end len c.in_ok-tokens.ensures.found same past)
+    ]
 
 pub returns-clause-found : goal.returns-clause-found
-returns-clause-found c =
-    let whole = scanned_all _ _ _ _ c.in-Ok.token c.loop-token.invariant.scanned c.in-Ok.ensures.found (same_true the_type tt _ _ (sym c.eq.ensures ∙ c.if-eq.true)) in
-    rw c.in_ok-end_line.ensures whole.0
+returns-clause-found c = are c
 
 pub returns-clause-only : goal.returns-clause-only
-returns-clause-only c =
-    let whole = scanned_all _ _ _ _ c.in-Ok.token c.loop-token.invariant.scanned c.in-Ok.ensures.found (same_true the_type tt _ _ (sym c.eq.ensures ∙ c.if-eq.true)) in
-    λ all h. c.in_ok-end_line.ensures ∙ whole.1 all h
-
-pub returns-in-Err-clause-only : goal.returns-in-Err-clause-only
-returns-in-Err-clause-only c = λ all h.
-    absurd (scanned_fault _ _ _ _ c.in-Err.fault c.in-Err.ensures.fault c.loop-token.invariant.scanned all h)
-
-pub loop-token-preserved : goal.loop-token-preserved
-loop-token-preserved c =
-    let text = c.args.text.now in
-    let token = c.in-Ok.token in
-    let begins : c.in_ok-begins.begins ≡ place_at text token.start =
-    c.in_ok-begins.ensures (take c.loop-token.at text) c.loop-token.invariant.place
-    ∙ ap place_behind (ap (λ (xs : List ℕ). take c.loop-token.at text ++ slice_range xs c.loop-token.at token.start) c.as_bytes.ensures.value ∙ take_range text c.loop-token.at token.start c.in-Ok.ensures.place.begins) in
-    let same : tok c.placed.result ≡ placed text token =
-    c.placed.ensures ∙ ap (λ bytes. token_of token.kind bytes c.in_ok-begins.begins) c.range-piece.ensures.value
-    ∙ ap (token_of token.kind (slice_range text token.start token.end)) begins in
-    record {
-      scanned = scanned_by text c.loop-token.at (front c.loop-token.front) (front c.take.new.self) (toks c.loop-token.tokens.items) (toks c.take.new.tokens.items) token (tok c.placed.result)
-          c.loop-token.invariant.scanned c.in-Ok.ensures.found (same_false the_type _ _ (sym c.eq.ensures ∙ c.if-eq.false))
-          same c.in_ok-take.ensures.after c.in_ok-take.ensures.stand;
-      place = c.in_ok-place.ensures (take token.start text) begins
-          ∙ ap place_behind (ap (λ (xs : List ℕ). take token.start text ++ xs) (c.as_bytes-in-loop-token.ensures.value ∙ c.range-piece.ensures.value)
-          ∙ take_range text token.start token.end c.in-Ok.ensures.place.ordered);
-      fits = c.in-Ok.ensures.place.fits;
-      cut = c.in-Ok.ensures.place.cuts_end;
-    }
+returns-clause-only c = λ all end h. tokens_one c.args.text.now _ all _ end (are c) h
