@@ -134,7 +134,7 @@ reads_symbol t x k state free = record {
   wider = wider_push state.sorts t;
   terms = λ y m u h. kept (nat_eq y x && nat_eq m k) (name (length state.sorts)) u (state.terms y m)
       (λ e. none≢some (sym free ∙ subst (λ z. state.terms z k ≡ Some u) (same_variable_of y x m k e) (subst (λ z. state.terms y z ≡ Some u)
-          (same_version_of y x m k e) h))) h;
+      (same_version_of y x m k e) h))) h;
 }
 
 new_term : (x k : ℕ) (term : Tree ℕ) (state : State) → (with_term x k term state).terms x k ≡ Some term
@@ -175,19 +175,28 @@ module _ {A : Type 0} (P : A → Type 0) where
     each_of_names (unary op a) h = each_of_names a h
     each_of_names (binary op a b) h = (each_of_names a (all_left P (names a) (names b) h), each_of_names b (all_right P (names a) (names b) h))
     each_of_names (update a i x) h =
-        let rest = all_right P (names a) (names i ++ names x) h in
-        (each_of_names a (all_left P (names a) (names i ++ names x) h), each_of_names i (all_left P (names i) (names x) rest), each_of_names x (all_right P
-            (names i) (names x) rest))
+        let rest = all_right P (names a) (names i ++ names x) h in (
+          each_of_names a (all_left P (names a) (names i ++ names x) h),
+          each_of_names i (all_left P (names i) (names x) rest),
+          each_of_names x (all_right P
+              (names i) (names x) rest),
+        )
     each_of_names (quantified q low high body) h =
-        let rest = all_right P (names low) (names high ++ names body) h in
-        (each_of_names low (all_left P (names low) (names high ++ names body) h), each_of_names high (all_left P (names high)
-            (names body) rest), each_of_names body (all_right P (names high) (names body) rest))
+        let rest = all_right P (names low) (names high ++ names body) h in (
+          each_of_names low (all_left P (names low) (names high ++ names body) h),
+          each_of_names high (all_left P (names high)
+              (names body) rest),
+          each_of_names body (all_right P (names high) (names body) rest),
+        )
     each_of_names (listed l ts) h = each_of_all_names ts h
 
     each_of_all_names : (ts : Trees A) → AllByRecursion P (names_of_all ts) → EachNameOfAll P ts
     each_of_all_names no_trees h = tt
-    each_of_all_names (tree_then t ts) h = (each_of_names t (all_left P (names t) (names_of_all ts) h), each_of_all_names ts (all_right P (names t)
-        (names_of_all ts) h))
+    each_of_all_names (tree_then t ts) h = (
+      each_of_names t (all_left P (names t) (names_of_all ts) h),
+      each_of_all_names ts (all_right P (names t)
+          (names_of_all ts) h),
+    )
 
 -- ---- good states stay good
 
@@ -218,9 +227,15 @@ module _ (records : Records) (variables : List ValueType) (fine : AllByRecursion
         → Reads state (where_none found (with_symbol (slice_index_or variables x unit_type) x k state) state)
         × Good (where_none found (with_symbol (slice_index_or variables x unit_type) x k state) state)
         × ((u : Tree ℕ) × ((where_none found (with_symbol (slice_index_or variables x unit_type) x k state) state).terms x k ≡ Some u))
-    version_read x k state None e g =
-        (reads_symbol (slice_index_or variables x unit_type) x k state e, good_symbol lets x k state g, (name (length state.sorts), new_term x k (name
-            (length state.sorts)) state))
+    version_read x k state None e g = (
+      reads_symbol (slice_index_or variables x unit_type) x k state e,
+      good_symbol lets x k state g,
+      (
+        name (length state.sorts),
+        new_term x k (name
+            (length state.sorts)) state,
+      ),
+    )
     version_read x k state (Some u) e g = (reads_nothing state, g, (u, e))
 
     name_read : (a : ClaimName ℕ) (state : State) → Good state → Reads state (read_name variables state a) × Good (read_name variables state a) × HasTerm
@@ -237,7 +252,7 @@ module _ (records : Records) (variables : List ValueType) (fine : AllByRecursion
 
     names_read : (as' : List (ClaimName ℕ)) (state : State) → Good state
         → Reads state (fold (read_name variables) state as') × Good (fold (read_name variables) state as') × AllByRecursion (HasTerm (fold
-            (read_name variables) state as')) as'
+        (read_name variables) state as')) as'
     names_read [] state g = (reads_nothing state, g, tt)
     names_read (a ∷ as') state g =
         let one = name_read a state g in
@@ -324,5 +339,11 @@ module _ (records : Records) (variables : List ValueType) (fine : AllByRecursion
   pub good_fact : (lets : ℕ → Bool) (term : Tree ℕ) (state : State) → IsGood records variables lets state → IsClaim records (slice_get state.sorts) term
       → IsGood records variables lets (with_fact term state)
   good_fact lets term state g h =
-      record { known = g.known; closed = g.closed; typed = g.typed; symbols = g.symbols; facts = claims_push records
-          (slice_get state.sorts) state.facts term g.facts h }
+      record {
+        known = g.known;
+        closed = g.closed;
+        typed = g.typed;
+        symbols = g.symbols;
+        facts = claims_push records
+            (slice_get state.sorts) state.facts term g.facts h;
+      }

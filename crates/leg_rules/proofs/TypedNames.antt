@@ -51,9 +51,13 @@ module _ {A B : Type 0} (records : Records) (types : NameTypes A) (new_types : N
         (h.0 ∙ ap sequence_type is, IsTyped-bind_names a t e.0 h.1, subst (λ s. IsTyped records new_types (bind f x) s) is element)
     IsTyped-bind_names (update a i x) t e h =
         let element = IsTyped-bind_names x (type_of records types x) e.2 h.3 in
-        let is = sym (type_of_typed records new_types (bind f x) (type_of records types x) element) in
-        (h.0 ∙ ap sequence_type is, IsTyped-bind_names a t e.0 h.1, IsTyped-bind_names i number_type e.1 h.2, subst (λ s. IsTyped records new_types
-            (bind f x) s) is element)
+        let is = sym (type_of_typed records new_types (bind f x) (type_of records types x) element) in (
+          h.0 ∙ ap sequence_type is,
+          IsTyped-bind_names a t e.0 h.1,
+          IsTyped-bind_names i number_type e.1 h.2,
+          subst (λ s. IsTyped records new_types
+              (bind f x) s) is element,
+        )
     IsTyped-bind_names (quantified q low high body) t e h =
         (h.0, IsTyped-bind_names low number_type e.0 h.1, IsTyped-bind_names high number_type e.1 h.2, IsTyped-bind_names body truth_type e.2 h.3)
     IsTyped-bind_names (listed (sequence_of s) ts) t e h = (h.0, h.1, EachIsTyped-bind_names ts s e h.2)

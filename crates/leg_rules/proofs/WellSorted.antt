@@ -105,13 +105,25 @@ module _ (records : Records) where
           facts = claims_wider records state.sorts new wider state.facts g.facts;
         }
     good_begin false label lets state g =
-        record { known = g.known; closed = g.closed; typed = g.typed; symbols = λ other h. g.symbols other (no_let (nat_eq other label)
-            (lets other) h); facts = g.facts }
+        record {
+          known = g.known;
+          closed = g.closed;
+          typed = g.typed;
+          symbols = λ other h. g.symbols other (no_let (nat_eq other label)
+              (lets other) h);
+          facts = g.facts;
+        }
 
     good_outer : (has : Bool) (label : ℕ) (lets : ℕ → Bool) (state : State) → Good (with_label has label lets) state → Good lets state
     good_outer has label lets state g =
-        record { known = g.known; closed = g.closed; typed = g.typed; symbols = λ other h. g.symbols other (still (nat_eq other label) has
-            (lets other) h); facts = g.facts }
+        record {
+          known = g.known;
+          closed = g.closed;
+          typed = g.typed;
+          symbols = λ other h. g.symbols other (still (nat_eq other label) has
+              (lets other) h);
+          facts = g.facts;
+        }
 
     claim_read : (lets : ℕ → Bool) (claim : ClaimTree ℕ) (state : State) → Good lets state → IsLegClaim records (step_names variables lets) truth_type claim
         → IsClaim records (slice_get (read_claim variables claim state).sorts) (read_term variables state claim)
@@ -141,8 +153,12 @@ module _ (records : Records) where
           let from_first = keeps_on first second third k2 rest.1 in (
             good_outer has label lets third rest.0,
             keeps_on state first third (keeps_begin has label state) from_first,
-            (symbol_number has label state third from_first.wider, IsClaim-wider records second.sorts third.sorts rest.1.wider _
-                (claim_read inner assumption first g1 typed.0), rest.2),
+            (
+              symbol_number has label state third from_first.wider,
+              IsClaim-wider records second.sorts third.sorts rest.1.wider _
+                  (claim_read inner assumption first g1 typed.0),
+              rest.2,
+            ),
           )
 
       sorted_steps : (steps : ProofStepTrees ℕ) (lets : ℕ → Bool) (state : State) → Good lets state → AreTypedSteps records variables lets steps
@@ -160,8 +176,11 @@ module _ (records : Records) where
 
     in_proof : (type : ValueType) (claim : ClaimTree ℕ) → IsLegClaim records (item_names variables) type claim → IsLegClaim records
         (step_names variables no_labels) type claim
-    in_proof type claim h = record { typed = IsTyped-more records (item_names variables)
-        (step_names variables no_labels) more claim type h.typed; closed = h.closed }
+    in_proof type claim h = record {
+      typed = IsTyped-more records (item_names variables)
+          (step_names variables no_labels) more claim type h.typed;
+      closed = h.closed;
+    }
       where
         more : (a : ClaimName ℕ) (t : ValueType) → item_names variables a ≡ Some t → step_names variables no_labels a ≡ Some t
         more (variable x) t at = at
@@ -193,7 +212,7 @@ module _ (records : Records) where
           (obligations_from records variables (place + 1) (with_fact (read_term variables state claim) read) items)
           (sorted_items (place + 1) (with_fact (read_term variables state claim) read) items
           (good_fact records variables fine no_labels (read_term variables state claim) read (good_read records variables fine no_labels claim state g)
-              (claim_read no_labels claim state g h)) typed.1)
+          (claim_read no_labels claim state g h)) typed.1)
       sorted_items place state (check kind claim ∷ items) g typed =
           let h = in_proof truth_type claim typed.0 in
           let read = read_claim variables claim state in
@@ -201,7 +220,7 @@ module _ (records : Records) where
           let goal = claim_read no_labels claim state g h in
           small_sorted (is_small (read_term variables state claim)) place kind
           (to_show place kind (sequent records read (read_term variables state claim)) ∷ obligations_from records variables (place + 1) (with_fact
-              (read_term variables state claim) read) items) (
+          (read_term variables state claim) read) items) (
             well_sorted read (read_term variables state claim) good goal,
             sorted_items (place + 1) (with_fact (read_term variables state claim) read) items (good_fact records variables fine no_labels
                 (read_term variables state claim) read good goal) typed.1,

@@ -37,7 +37,7 @@ some_mention test claims = list_any (λ noted. mentions test noted.claim) claims
 abbrev mutual
   pub step_mentions : {A : Type 0} → (A → Bool) → ProofStepTree A → Bool
   step_mentions test (line label claim rule cites) = mentions test claim
-  step_mentions test (block label has_symbol assumed assumption steps) = mentions test assumption || steps_mention test steps
+  step_mentions test (block label has_symbol assumed given steps) = mentions test given || steps_mention test steps
 
   pub steps_mention : {A : Type 0} → (A → Bool) → ProofStepTrees A → Bool
   steps_mention test no_steps = false

@@ -49,7 +49,7 @@ abbrev mutual
 abbrev mutual
   pub step_appears : ProofStepTree LegName → List Appearance
   step_appears (line label claim rule cites) = claim_appears claim
-  step_appears (block label has_symbol assumed assumption steps) = claim_appears assumption ++ steps_appear steps
+  step_appears (block label has_symbol assumed given steps) = claim_appears given ++ steps_appear steps
 
   pub steps_appear : ProofStepTrees LegName → List Appearance
   steps_appear no_steps = []
@@ -136,8 +136,8 @@ abbrev mutual
 abbrev mutual
   pub renumbered_step : {A : Type 0} → (ℕ → ℕ) → ProofStepTree A → ProofStepTree A
   renumbered_step f (line label claim rule cites) = line label (renumbered f claim) rule cites
-  renumbered_step f (block label has_symbol assumed assumption steps) =
-      block label has_symbol assumed (renumbered f assumption) (renumbered_steps f steps)
+  renumbered_step f (block label has_symbol assumed given steps) =
+      block label has_symbol assumed (renumbered f given) (renumbered_steps f steps)
 
   pub renumbered_steps : {A : Type 0} → (ℕ → ℕ) → ProofStepTrees A → ProofStepTrees A
   renumbered_steps f no_steps = no_steps

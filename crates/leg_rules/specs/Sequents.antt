@@ -24,8 +24,8 @@ module _ (types : List ValueType) where
     -- what a step reads
     pub after_step : State → ProofStepTree ℕ → State
     after_step state (claims.line label claim rule cites) = read_claim types claim state
-    after_step state (claims.block label has_symbol assumed assumption steps) =
-        after_steps (read_claim types assumption (begin_block has_symbol label state)) steps
+    after_step state (claims.block label has_symbol assumed given steps) =
+        after_steps (read_claim types given (begin_block has_symbol label state)) steps
 
     pub after_steps : State → ProofStepTrees ℕ → State
     after_steps state claims.no_steps = state
@@ -37,9 +37,9 @@ module _ (types : List ValueType) where
   abbrev mutual
     pub step_term : State → ProofStepTree ℕ → StepTree
     step_term state (claims.line label claim rule cites) = line label (read_term state claim) rule cites
-    step_term state (claims.block label has_symbol assumed assumption steps) =
-        block label (block_symbol has_symbol state) assumed (read_term (begin_block has_symbol label state) assumption)
-        (step_terms (read_claim types assumption (begin_block has_symbol label state)) steps)
+    step_term state (claims.block label has_symbol assumed given steps) =
+        block label (block_symbol has_symbol state) assumed (read_term (begin_block has_symbol label state) given)
+        (step_terms (read_claim types given (begin_block has_symbol label state)) steps)
 
     pub step_terms : State → ProofStepTrees ℕ → StepTrees
     step_terms state claims.no_steps = no_steps
@@ -49,7 +49,7 @@ abbrev mutual
   -- no term of the step is past a limit
   pub is_small_step : StepTree → Bool
   is_small_step (line label claim rule cites) = is_small claim
-  is_small_step (block label symbol assumed assumption steps) = is_small assumption && are_small_steps steps
+  is_small_step (block label symbol assumed given steps) = is_small given && are_small_steps steps
 
   pub are_small_steps : StepTrees → Bool
   are_small_steps no_steps = true
@@ -59,7 +59,7 @@ abbrev mutual
 abbrev pub outermost : StepTrees → List (Tree ℕ)
 outermost no_steps = []
 outermost (step_then (line label claim rule cites) steps) = claim ∷ outermost steps
-outermost (step_then (block label symbol assumed assumption inner) steps) = outermost steps
+outermost (step_then (block label symbol assumed given inner) steps) = outermost steps
 
 -- ---- the items of a leg
 

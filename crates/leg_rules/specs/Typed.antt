@@ -30,8 +30,8 @@ with_label has_symbol label lets other = if nat_eq other label then has_symbol |
 abbrev mutual
   pub IsTypedStep : Records → List ValueType → (ℕ → Bool) → ProofStepTree ℕ → Type 0
   IsTypedStep records variables lets (line label claim rule cites) = IsLegClaim records (step_names variables lets) truth_type claim
-  IsTypedStep records variables lets (block label has_symbol assumed assumption steps) =
-      IsLegClaim records (step_names variables (with_label has_symbol label lets)) truth_type assumption
+  IsTypedStep records variables lets (block label has_symbol assumed given steps) =
+      IsLegClaim records (step_names variables (with_label has_symbol label lets)) truth_type given
       × AreTypedSteps records variables (with_label has_symbol label lets) steps
 
   pub AreTypedSteps : Records → List ValueType → (ℕ → Bool) → ProofStepTrees ℕ → Type 0
