@@ -16,7 +16,7 @@ module _ (program : ProgramTree Variable) where
 
   on_test-more : (n : ℕ) (found : Option (NotedTree Variable)) (failed : NotedTree Variable → Outcome) (long short : Outcome)
       → ((noted : NotedTree Variable) → failed noted ≡ more program n (failed noted)) → long ≡ more program n short → on_test found failed long
-          ≡ more program n (on_test found failed short)
+      ≡ more program n (on_test found failed short)
   on_test-more n None failed long short fail same = same
   on_test-more n (Some noted) failed long short fail same = fail noted
 
@@ -38,15 +38,15 @@ module _ (program : ProgramTree Variable) where
       let callee = entered program.records (method_at program number) (argument_values program values arguments) (λ n. values (global n)) in
       on_failure-more n (failing_argument program.records values arguments) _ _
       (on_test-more n (first_false program callee (method_at program number).requires_) (λ noted. fails kinds.Requires name_node) _ _ (λ noted. refl)
-          (same _ callee))
+      (same _ callee))
 
   -- a run from a stack with some turns, where it is known of fewer
   stack-more : (b : ℕ) (long short : Option Continuation)
       → ((statement : CodeTree Variable) (code : CodeTrees Variable) (rest : Stack) (values : Values)
       → going_on program long (begin (code_then statement code) rest) values ≡ more program b (going_on program short (begin
-          (code_then statement code) rest) values))
+      (code_then statement code) rest) values))
       → ((the_loop : Loop) (rest : Stack) (values : Values) → test_loop program long the_loop rest values ≡ more program b
-          (test_loop program short the_loop rest values))
+      (test_loop program short the_loop rest values))
       → (stack : Stack) (values : Values) → going_on program long stack values ≡ more program b (going_on program short stack values)
   stack-more b long short step test (last method) values = on_test-more b (first_false program values method.ensures_)
       (λ noted. fails kinds.Ensures noted.node) _ _ (λ noted. refl) refl
@@ -54,23 +54,23 @@ module _ (program : ProgramTree Variable) where
   stack-more b long short step test (begin (code_then statement code) rest) values = step statement code rest values
   stack-more b long short step test (again first the_loop rest) values =
       on_test-more b (first_false program values the_loop.invariants) (λ noted. fails (invariant_kind first) noted.node) _ _ (λ noted. refl)
-          (test the_loop rest values)
+      (test the_loop rest values)
   stack-more b long short step test (at_test the_loop rest) values = test the_loop rest values
   stack-more b long short step test (back method caller target rest) values =
       on_test-more b (first_false program values method.ensures_) (λ noted. fails kinds.Ensures noted.node) _ _ (λ noted. refl)
-          (stack-more b long short step test rest (returned caller target values))
+      (stack-more b long short step test rest (returned caller target values))
 
   going_on-more : (a b : ℕ) → IsMore b (going_on program (turns program (a + b))) (going_on program (turns program a))
   going_on-more zero b stack values =
       let same : zero + b ≡ b = omega arith in
       ap (λ n. going_on program (turns program n) stack values) same ∙ stack-more b (turns program b) None (λ statement code rest now. refl)
-          (λ the_loop rest now. refl) stack values
+      (λ the_loop rest now. refl) stack values
   going_on-more (suc a) b stack values =
       let same : suc a + b ≡ suc (a + b) = omega arith in
       ap (λ n. going_on program (turns program n) stack values) same
       ∙ stack-more b (turns program (suc (a + b))) (turns program (suc a))
       (λ statement code rest now. after-more b statement now (going_on program (turns program (a + b))) (going_on program (turns program a))
-          (begin code rest) (going_on-more a b))
+      (begin code rest) (going_on-more a b))
       (λ the_loop rest now. on_failure-more b (failing program.records now the_loop.test) _ _ (going_on-more a b (beyond_test program the_loop rest now) now))
       stack values
 
