@@ -1,0 +1,4 @@
+pub mod Examples
+pub mod Opening
+pub mod Instancing
+pub mod Ending
