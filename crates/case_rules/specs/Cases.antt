@@ -134,7 +134,7 @@ default_weight records depth number_type = 1
 default_weight records depth truth_type = 1
 default_weight records depth (sequence_type t) = 8 + default_weight records depth t
 default_weight records zero (record_type n) = 1
-default_weight records (suc depth) (record_type n) = 1 + sum_by (default_weight records depth) (fields records n)
+default_weight records (suc depth) (record_type n) = 1 + sum_by (λ t. 1 + default_weight records depth t) (fields records n)
 
 abbrev pub binary_weight : Records → Binary → ValueType → ℕ → ℕ → ℕ
 binary_weight records Binary.Read t a b = 16 + a + 4 * b
