@@ -1,6 +1,6 @@
 //! Literals that cannot hold together, as they stand.
 
-ghost use Rattle.std.specs.Prelude.{◌≡◌, [], ◌∷◌, map, IfOk, MatchOption};
+ghost use Rattle.std.specs.Prelude.{◌≡◌, [], ◌∷◌, map, IfOk, OnOk, MatchOption};
 ghost use Rattle.std.specs.List.{list_any};
 ghost use Rattle.tree_forms.specs.Canonical as forms;
 ghost use Rattle.term_trees.specs.Term.{tree};
@@ -9,6 +9,7 @@ ghost use Rattle.closing.specs.Literals as literal_specs;
 ghost use Rattle.auto_prove.specs.Denied as denied_specs;
 
 use canonical_terms::{NoMemory, canonical, canonical_all};
+use owned_results::both;
 use slang_values::Unary;
 use sqlite_items::Items;
 use std::alloc::Global;
@@ -91,8 +92,10 @@ fn has_opposites(
     ensures { IfOk result (λ b. b
         ≡ list_any (λ s. list_any (literal_specs.is_opposite (record_types records.now) (types_of symbols.now) s) (map tree literals.now)) (map tree literals.now)) }
 {
-    let copies = canonical_all(alloc, symbols, records, literals)?;
-    let denied = denied_copies(alloc, symbols, records, literals)?;
+    let (copies, denied) = both(
+        canonical_all(alloc, symbols, records, literals),
+        denied_copies(alloc, symbols, records, literals),
+    )?;
     Ok(is_any_among(copies.as_slice(), denied.as_slice()))
 }
 
@@ -106,12 +109,27 @@ fn denied_copies(
     ensures { IfOk result (λ ts. map tree ts ≡ map (forms.canonical (record_types records.now) (types_of symbols.now)) (denied_specs.denied_in (map tree literals.now))) }
 {
     let mut copies = Items::new(alloc);
+    add_denied_copies(alloc, &mut copies, symbols, records, literals)?;
+    Ok(copies)
+}
+
+/// Adds them to none.
+fn add_denied_copies(
+    alloc: Global,
+    copies: &mut Items<Term>,
+    symbols: &[Sort],
+    records: &[Items<Sort>],
+    literals: &[Term],
+) -> Result<(), NoMemory>
+    requires { copies.old ≡ [] }
+    ensures { OnOk result (map tree copies.new ≡ map (forms.canonical (record_types records.now) (types_of symbols.now)) (denied_specs.denied_in (map tree literals.now))) }
+{
     for literal in literals {
         if let Some(a) = denied(literal) {
             copies.push(canonical(alloc, symbols, records, a)?)?;
         }
     }
-    Ok(copies)
+    Ok(())
 }
 
 /// Whether a term of the first list equals one of the second.
