@@ -1,23 +1,8 @@
--- What holds of legs and of what is to be shown along them, as one statement each.
+-- What holds of legs.
 use Rattle.std.specs.Prelude.{◌≡◌, length}
-use Rattle.std.specs.List.{All}
-use Rattle.validity.specs.Validity.{symbol_types, IsWellSorted}
-use Rattle.deduction_rules.specs.Step.{AreSortedSteps}
 use Rattle.program_trees.specs.Programs.{MethodTree, ProgramTree}
 use Rattle.program_trees.specs.Variables.{Variable}
-use Rattle.program_trees.specs.Legs.{LegTree}
 use Rattle.leg_rules.specs.Legs.{legs, leg_count}
-use Rattle.leg_rules.specs.Sequents.{Obligation, to_show, to_accept, too_large, obligations}
-use Rattle.leg_rules.specs.Typed.{IsTypedLeg}
 
 abbrev pub LegsAreCounted : Type 0
 LegsAreCounted = (program : ProgramTree Variable) (method : MethodTree Variable) → length (legs program method) ≡ leg_count method
-
-abbrev pub IsWellSortedObligation : Obligation → Type 0
-IsWellSortedObligation (to_show item kind sequent) = IsWellSorted sequent
-IsWellSortedObligation (to_accept item base steps) = IsWellSorted base × AreSortedSteps base.records (symbol_types base) steps
-IsWellSortedObligation (too_large item kind) = Unit {0}
-
--- What is to be shown along a well-typed leg is well sorted.
-abbrev pub SequentsAreWellSorted : Type 0
-SequentsAreWellSorted = (leg : LegTree) → IsTypedLeg leg → All IsWellSortedObligation (obligations leg)

@@ -1,4 +1,4 @@
-ghost use Rattle.leg_rules.specs.Laws.{LegsAreCounted, SequentsAreWellSorted};
+ghost use Rattle.leg_rules.specs.Laws.{LegsAreCounted};
 ghost use Rattle.leg_rules.specs.LegExamples.{LegExamples};
 ghost use Rattle.leg_rules.specs.SequentExamples.{SequentExamples};
 
@@ -15,9 +15,4 @@ pub fn legs_on_examples()
 /// Sequents, numbers and verdicts, computed on small legs.
 pub fn sequents_on_examples()
     ensures { SequentExamples }
-{}
-
-/// What is to be shown along a well-typed leg is well sorted.
-pub fn sequents_are_well_sorted()
-    ensures { SequentsAreWellSorted }
 {}

@@ -16,8 +16,8 @@ use Rattle.program_trees.specs.Legs.{ItemTree, assume, check, set, fresh, proof,
 use Rattle.leg_rules.specs.Store.{State, start, read_claim, with_fact, set_variable, make_fresh, is_small}
 use Rattle.leg_rules.specs.Sequents.{begin_block, block_symbol, after_step, after_steps, read_term, step_term, step_terms, are_small_steps, outermost, Obligation, to_show, to_accept, sequent, base, where_small, with_facts, obligations_from, obligations}
 use Rattle.leg_rules.specs.Typed.{item_names, step_names, IsLegClaim, with_label, IsTypedStep, AreTypedSteps, no_labels, AreTypedItems, IsTypedLeg}
-use Rattle.leg_rules.specs.Laws.{IsWellSortedObligation}
-use Rattle.leg_rules.proofs.Reading.{Wider, wider_push, pushed, known_push, none≢some, IsTyped-more, IsClaim-wider, claims_wider, IsGood, Reads, claim_reads, good_read, typed_term, closed_term, good_set, good_fresh, good_fact}
+use Rattle.leg_sequents.specs.Laws.{IsWellSortedObligation}
+use Rattle.leg_sequents.proofs.Reading.{Wider, wider_push, pushed, known_push, none≢some, IsTyped-more, IsClaim-wider, claims_wider, IsGood, Reads, claim_reads, good_read, typed_term, closed_term, good_set, good_fresh, good_fact}
 
 -- ---- the labels of blocks
 

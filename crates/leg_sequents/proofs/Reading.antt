@@ -13,7 +13,7 @@ use Rattle.validity.proofs.Binds.{IsClosed-bind, IsTyped-bind, bind-name}
 use Rattle.program_trees.specs.Claims.{ClaimName, variable, old_variable, let_symbol, ClaimTree}
 use Rattle.leg_rules.specs.Store.{names, names_of_all, State, with_term, with_symbol, where_none, read_name, read_claim, term_of_name, term_of, with_fact, set_variable, take_symbol, make_fresh}
 use Rattle.leg_rules.specs.Typed.{step_names, IsLegClaim}
-use Rattle.leg_rules.proofs.TypedNames.{IsTyped-bind_names}
+use Rattle.leg_sequents.proofs.TypedNames.{IsTyped-bind_names}
 
 -- ---- lists
 

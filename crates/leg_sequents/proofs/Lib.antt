@@ -1,0 +1,3 @@
+pub mod TypedNames
+pub mod Reading
+pub mod WellSorted
