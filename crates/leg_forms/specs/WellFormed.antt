@@ -1,11 +1,10 @@
 -- Which legs are well formed: those that a key may hold.
-use Rattle.std.specs.Prelude.{◌≡◌, ℕ, zero, suc, ◌≤◌, nat_eq, Bool, true, false, List, [], ◌∷◌, ◌++◌, map, length, get_or, ⊤, Some}
+use Rattle.std.specs.Prelude.{◌≡◌, ℕ, zero, suc, ◌≤◌, nat_eq, Bool, true, false, List, [], ◌∷◌, ◌++◌, map, length, get_or, ⊤}
 use Rattle.std.specs.Option.{option_map_or}
 use Rattle.std.specs.List.{AllByRecursion, IsDistinct, flat_map, list_all, range_with_len}
 use Rattle.slang_values.specs.Value.{ValueType, unit_type, number_type, truth_type, sequence_type, record_type, Records, fields, named_record}
 use Rattle.slang_values.specs.Measure.{height}
 use Rattle.slang_tree.specs.Rules.{rule_numbered}
-use Rattle.slang_tree.specs.declared.rules.Rule.{Rule}
 use Rattle.program_trees.specs.declared.answer.Kind.{Kind}
 use Rattle.program_trees.specs.declared.answer.Kind.TheVariants as kinds
 use Rattle.program_trees.specs.Claims.{ClaimTree, ProofStepTree, line, block, ProofStepTrees, no_steps, step_then}
@@ -76,13 +75,21 @@ record_order leg =
 
 abbrev mutual
   -- the labels of a step, of its assumption and of the steps inside
-  pub step_labels : ProofStepTree ℕ → List ℕ
+  pub step_labels : {A : Type 0} → ProofStepTree A → List ℕ
   step_labels (line label claim rule cites) = label ∷ []
   step_labels (block label has_symbol assumed given steps) = label ∷ assumed ∷ labels steps
 
-  pub labels : ProofStepTrees ℕ → List ℕ
+  pub labels : {A : Type 0} → ProofStepTrees A → List ℕ
   labels no_steps = []
   labels (step_then step steps) = step_labels step ++ labels steps
+
+-- a number of the table of rules
+abbrev pub is_rule : ℕ → Bool
+is_rule number = option_map_or (λ rule. true) (rule_numbered number) false
+
+abbrev pub is_empty : {A : Type 0} → ProofStepTrees A → Bool
+is_empty no_steps = true
+is_empty (step_then step steps) = false
 
 -- a claim that is not higher than 2,000
 abbrev pub IsLow : ClaimTree ℕ → Type 0
@@ -91,8 +98,8 @@ IsLow claim = height claim ≤ 2000
 abbrev mutual
   -- The claims are low, each rule is one of the table, and each block has steps only where that many blocks may stand one inside another.
   pub IsWellFormedStep : ℕ → ProofStepTree ℕ → Type 0
-  IsWellFormedStep depth (line label claim rule cites) = IsLow claim × ((found : Rule) × (rule_numbered rule ≡ Some found))
-  IsWellFormedStep zero (block label has_symbol assumed given steps) = IsLow given × (steps ≡ no_steps)
+  IsWellFormedStep depth (line label claim rule cites) = IsLow claim × (is_rule rule ≡ true)
+  IsWellFormedStep zero (block label has_symbol assumed given steps) = IsLow given × (is_empty steps ≡ true)
   IsWellFormedStep (suc depth) (block label has_symbol assumed given steps) = IsLow given × AreWellFormedSteps depth steps
 
   pub AreWellFormedSteps : ℕ → ProofStepTrees ℕ → Type 0
