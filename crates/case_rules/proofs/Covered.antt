@@ -12,15 +12,15 @@ use Rattle.slang_values.specs.declared.operators.Binary.{Binary}
 use Rattle.slang_values.proofs.Typed.{HasType-value}
 use Rattle.validity.specs.Validity.{no_bounds}
 use Rattle.validity.proofs.TypeOf.{type_of_typed}
-use Rattle.case_rules.specs.Reduced.{reduced}
-use Rattle.case_rules.specs.Reads.{ReadCase, ReadSite, are_equal, negation, read_tree, first_site}
+use Rattle.read_rules.specs.Reduced.{reduced}
+use Rattle.read_rules.specs.Reads.{ReadCase, ReadSite, are_equal, negation, read_tree, first_site}
 use Rattle.case_rules.specs.Cases.{Alternatives, field, field_equalities, one_is_false, equality_alternatives, inequality_alternatives, binary_alternatives, negated_binary_alternatives, negated_alternatives, top_alternatives, site_alternatives, unless_top, alternatives, both, all_of, taken_apart, cases_within}
-use Rattle.case_rules.proofs.ReadCases.{number_is, truth_is, IsTrueTree, AllAreTrue, IsCovering, read_covers}
-use Rattle.case_rules.proofs.ReducedValues.{record_inj, typed_reduced, value_reduced}
-use Rattle.case_rules.proofs.Sites.{IsSite, first_site_is}
-use Rattle.case_rules.specs.Laws.{SomeIn}
-use Rattle.case_rules.proofs.Some.{some_weaker, some_map, some_flat, all_append}
-use Rattle.case_rules.proofs.Typing.{typed_from}
+use Rattle.read_rules.proofs.ReadCases.{number_is, truth_is, IsTrueTree, AllAreTrue, IsCovering, read_covers}
+use Rattle.read_rules.proofs.ReducedValues.{record_inj, typed_reduced, value_reduced}
+use Rattle.read_rules.proofs.Sites.{IsSite, first_site_is}
+use Rattle.read_rules.specs.Some.{SomeIn}
+use Rattle.read_rules.proofs.Some.{some_weaker, some_map, some_flat, all_append}
+use Rattle.read_rules.proofs.Typing.{typed_from}
 
 some_inj : {X : Type 0} (x y : X) → Some x ≡ Some y → x ≡ y
 some_inj x y e = cc

@@ -5,7 +5,7 @@ use Rattle.slang_values.specs.Tree.{Tree, literal, truth_literal, name, unary, b
 use Rattle.slang_values.specs.declared.operators.Unary.{Unary}
 use Rattle.slang_values.specs.declared.operators.Binary.{Binary}
 use Rattle.validity.specs.Validity.{SequentTree}
-use Rattle.case_rules.specs.Reduced.{reduced}
+use Rattle.read_rules.specs.Reduced.{reduced}
 use Rattle.case_rules.specs.Cases.{cases, cases_of}
 
 -- A number x, a truth value p, a sequence of numbers s, one of truth values b, and two points q and r of two numbers.

@@ -1,9 +1,3 @@
 pub mod Examples
-pub mod Typing
-pub mod ReducedValues
-pub mod Sites
-pub mod Some
-pub mod Defaults
-pub mod ReadCases
 pub mod Covered
 pub mod Sequents

@@ -6,13 +6,13 @@ use Rattle.slang_values.specs.Value.{Records, AreWellFormed, Value, truth_of}
 use Rattle.slang_values.specs.Tree.{Tree, value}
 use Rattle.slang_values.specs.Typing.{NameTypes, FitNames}
 use Rattle.validity.specs.Validity.{SequentTree, symbol_types, IsClaim, IsWellSorted, IsTrueUnder, no_bounds}
-use Rattle.case_rules.specs.Reads.{negation}
+use Rattle.read_rules.specs.Reads.{negation}
 use Rattle.case_rules.specs.Cases.{cases_of, cases, hypotheses}
-use Rattle.case_rules.specs.Laws.{SomeIn, CaseHolds, ReducingKeepsValues, TrueClaimsHaveACase, CasesKeepValidity}
+use Rattle.read_rules.specs.Some.{SomeIn}
+use Rattle.case_rules.specs.Laws.{CaseHolds, TrueClaimsHaveACase, CasesKeepValidity}
 use Rattle.case_rules.proofs.Covered.{some_case, all_some}
-use Rattle.case_rules.proofs.ReadCases.{IsTrueTree, AllAreTrue}
-use Rattle.case_rules.proofs.ReducedValues.{typed_reduced, value_reduced}
-use Rattle.case_rules.proofs.Some.{some_weaker, all_append}
+use Rattle.read_rules.proofs.ReadCases.{IsTrueTree, AllAreTrue}
+use Rattle.read_rules.proofs.Some.{some_weaker, all_append}
 
 module _ (records : Records) (fine : AreWellFormed records) (types : NameTypes ℕ) (names : ℕ → Value) (fit : FitNames records types names) where
   holds : (c : List (Tree ℕ)) → AllAreTrue records fine types names fit c → CaseHolds records names c
@@ -42,12 +42,6 @@ cases_keep_validity s sorted none names fit facts = by_goal (truth_of (value s.r
     by_goal false e =
         absurd (none names fit (some_weaker (AllAreTrue s.records sorted.records (symbol_types s) names fit) (CaseHolds s.records names) (holds s.records sorted.records (symbol_types s) names fit) (cases s)
         (case_of_sequent s sorted names fit (recursion_from_All (IsTrueUnder s.records names) s.facts facts) e)))
-
-pub reducing_keeps_values : ReducingKeepsValues
-reducing_keeps_values records fine types values fit t = record {
-  typed = typed_reduced records types t;
-  value = value_reduced records fine types values fit t;
-}
 
 pub true_claims_have_a_case : TrueClaimsHaveACase
 true_claims_have_a_case records fine types values fit n t h e =

@@ -8,8 +8,8 @@ use Rattle.slang_values.specs.Typing.{NameTypes, type_of}
 use Rattle.slang_values.specs.declared.operators.Unary.{Unary}
 use Rattle.slang_values.specs.declared.operators.Binary.{Binary}
 use Rattle.validity.specs.Validity.{SequentTree, symbol_types}
-use Rattle.case_rules.specs.Reduced.{reduced}
-use Rattle.case_rules.specs.Reads.{ReadCase, ReadSite, are_equal, negation, first_site}
+use Rattle.read_rules.specs.Reduced.{reduced}
+use Rattle.read_rules.specs.Reads.{ReadCase, ReadSite, are_equal, negation, first_site}
 
 -- ---- one step
 

@@ -1,4 +1,2 @@
-pub mod Reduced
-pub mod Reads
 pub mod Cases
 pub mod Laws

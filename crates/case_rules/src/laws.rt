@@ -1,10 +1,5 @@
 //! The laws of cases.
-ghost use Rattle.case_rules.specs.Laws.{CasesKeepValidity, ReducingKeepsValues, TrueClaimsHaveACase};
-
-/// A tree whose fields and sizes are reduced has the type and the value that it had.
-pub fn reducing_keeps_values()
-    ensures { ReducingKeepsValues }
-{}
+ghost use Rattle.case_rules.specs.Laws.{CasesKeepValidity, TrueClaimsHaveACase};
 
 /// Where a claim is true, some case of it holds.
 pub fn true_claims_have_a_case()

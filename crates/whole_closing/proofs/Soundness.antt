@@ -15,8 +15,8 @@ use Rattle.lin_rows.specs.Inequality.{Inequality, is_within}
 use Rattle.elimination.specs.Elimination.{Ending, Closed, Open, TooManyRows, TooWide, elimination}
 use Rattle.elimination.proofs.Soundness.{Closed-refutes}
 use Rattle.case_rules.specs.Cases.{hypotheses, cases, case_limit}
-use Rattle.case_rules.specs.Laws.{SomeIn}
-use Rattle.case_rules.proofs.ReadCases.{IsTrueTree, AllAreTrue}
+use Rattle.read_rules.specs.Some.{SomeIn}
+use Rattle.read_rules.proofs.ReadCases.{IsTrueTree, AllAreTrue}
 use Rattle.case_rules.proofs.Sequents.{case_of_sequent}
 use Rattle.instance_rules.specs.Instances.{Instancing, too_many_instances, too_large_instance, instanced, instancing}
 use Rattle.instance_rules.proofs.Instancing.{instances_keep_validity}

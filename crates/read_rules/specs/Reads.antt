@@ -5,7 +5,7 @@ use Rattle.slang_values.specs.Value.{ValueType, unit_type, number_type, truth_ty
 use Rattle.slang_values.specs.Tree.{Tree, literal, truth_literal, name, bound, unary, binary, update, quantified, listed, Trees, no_trees, tree_then, sequence_of, record_of}
 use Rattle.slang_values.specs.declared.operators.Unary.{Unary}
 use Rattle.slang_values.specs.declared.operators.Binary.{Binary}
-use Rattle.case_rules.specs.Reduced.{trees_length}
+use Rattle.read_rules.specs.Reduced.{trees_length}
 
 -- ---- the default of a type, as a tree
 

@@ -1,7 +1,7 @@
 -- Lists of which some element has a property.
 use Rattle.std.proofs.Common.{inl, inr, List, [], ◌∷◌, ◌++◌, map}
 use Rattle.std.specs.List.{AllByRecursion, flat_map}
-use Rattle.case_rules.specs.Laws.{SomeIn}
+use Rattle.read_rules.specs.Some.{SomeIn}
 
 pub some_left : {X : Type 0} (P : X → Type 0) (xs ys : List X) → SomeIn P xs → SomeIn P (xs ++ ys)
 some_left P [] ys h = absurd h

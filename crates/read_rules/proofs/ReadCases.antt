@@ -13,12 +13,12 @@ use Rattle.slang_values.proofs.Sequences.{read_outside, updated_outside, read-up
 use Rattle.slang_values.proofs.Typed.{HasType-value}
 use Rattle.validity.specs.Validity.{IsTrueUnder, no_bounds}
 use Rattle.validity.proofs.TypeOf.{type_of_typed}
-use Rattle.case_rules.specs.Reduced.{trees_length}
-use Rattle.case_rules.specs.Reads.{ReadCase, are_equal, read_tree, is_updated_place, update_cases, append_cases, element_cases, outside_cases, list_cases, binary_read_cases, default_tree, read_cases}
-use Rattle.case_rules.proofs.Defaults.{IsDefault, is_default}
-use Rattle.case_rules.proofs.ReducedValues.{sequence_inj, size_unary, count-values}
-use Rattle.case_rules.specs.Laws.{SomeIn}
-use Rattle.case_rules.proofs.Some.{some_left, some_right}
+use Rattle.read_rules.specs.Reduced.{trees_length}
+use Rattle.read_rules.specs.Reads.{ReadCase, are_equal, read_tree, is_updated_place, update_cases, append_cases, element_cases, outside_cases, list_cases, binary_read_cases, default_tree, read_cases}
+use Rattle.read_rules.proofs.Defaults.{IsDefault, is_default}
+use Rattle.read_rules.proofs.ReducedValues.{sequence_inj, size_unary, count-values}
+use Rattle.read_rules.specs.Some.{SomeIn}
+use Rattle.read_rules.proofs.Some.{some_left, some_right}
 
 some_inj : {X : Type 0} (x y : X) → Some x ≡ Some y → x ≡ y
 some_inj x y e = cc

@@ -9,8 +9,8 @@ use Rattle.slang_values.specs.declared.operators.Unary.{Unary}
 use Rattle.slang_values.specs.declared.operators.Binary.{Binary}
 use Rattle.slang_values.proofs.Typed.{HasType-value}
 use Rattle.validity.proofs.TypeOf.{type_of_typed}
-use Rattle.case_rules.specs.Reduced.{trees_length, tree_at_place, size_tree, field_tree, unary_tree, reduced, all_reduced}
-use Rattle.case_rules.proofs.Typing.{TypedAs, ListTypedAs, typed_unary, typed_binary, typed_update, typed_quantified, typed_listed, typed_then, typed_none, EachHasSomeType, unary_part, left_part, right_part, listed_parts}
+use Rattle.read_rules.specs.Reduced.{trees_length, tree_at_place, size_tree, field_tree, unary_tree, reduced, all_reduced}
+use Rattle.read_rules.proofs.Typing.{TypedAs, ListTypedAs, typed_unary, typed_binary, typed_update, typed_quantified, typed_listed, typed_then, typed_none, EachHasSomeType, unary_part, left_part, right_part, listed_parts}
 
 pub sequence_inj : {s t : ValueType} → sequence_type s ≡ sequence_type t → s ≡ t
 sequence_inj e = cc

@@ -6,7 +6,7 @@ use Rattle.std.proofs.lemmas.Bool.{and_parts, ltb-true}
 use Rattle.slang_values.specs.Value.{ValueType, unit_type, number_type, truth_type, sequence_type, record_type, Records, fields, is_known, AreWellFormed, Value, record_value, value_then, values_of, default_within}
 use Rattle.slang_values.specs.Tree.{Tree, listed, Trees, no_trees, tree_then, record_of, Bounds, value, values}
 use Rattle.slang_values.specs.Typing.{NameTypes, IsTyped, AreTyped}
-use Rattle.case_rules.specs.Reads.{each_tree, default_tree_within}
+use Rattle.read_rules.specs.Reads.{each_tree, default_tree_within}
 
 none_some : {X : Type 0} (x : X) → None ≡ Some x → ⊥
 none_some x e = cc

@@ -8,8 +8,8 @@ use Rattle.slang_values.specs.declared.operators.Unary.{Unary}
 use Rattle.slang_values.specs.declared.operators.Binary.{Binary}
 use Rattle.slang_values.specs.declared.operators.Quantifier.{Quantifier}
 use Rattle.validity.specs.Validity.{no_bounds}
-use Rattle.case_rules.specs.Reads.{ReadCase, ReadSite, ListSite, read_tree, read_cases, site_within, first_of, own_site, binary_site, listed_site, site_in_first, site_in_rest, first_in_list, first_site, first_site_of_list}
-use Rattle.case_rules.proofs.Typing.{TypedAs, ListTypedAs, HasSomeType, EachHasSomeType, typed_unary, typed_binary, typed_update, typed_quantified, typed_listed, typed_then, unary_part, left_part, right_part, listed_parts}
+use Rattle.read_rules.specs.Reads.{ReadCase, ReadSite, ListSite, read_tree, read_cases, site_within, first_of, own_site, binary_site, listed_site, site_in_first, site_in_rest, first_in_list, first_site, first_site_of_list}
+use Rattle.read_rules.proofs.Typing.{TypedAs, ListTypedAs, HasSomeType, EachHasSomeType, typed_unary, typed_binary, typed_update, typed_quantified, typed_listed, typed_then, unary_part, left_part, right_part, listed_parts}
 
 none_some : {X : Type 0} (x : X) → None ≡ Some x → ⊥
 none_some x e = cc

@@ -1,0 +1,4 @@
+pub mod Reduced
+pub mod Reads
+pub mod Some
+pub mod Laws
