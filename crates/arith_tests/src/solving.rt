@@ -5,14 +5,13 @@ use lin_cert::accepts;
 use lin_rows::Row;
 use lin_solve::{MOST_ROWS, SolveEnd, Solved, are_within, solve};
 use std::alloc::Global;
-use std::process::Abort;
 use std::test::Fail;
 
 /// 2^60.
 const MOST: i128 = 1152921504606846976;
 
 /// How an elimination ends.
-#[derive(Clone, Copy, Debug, PartialEq, Eq)]
+#[derive(Clone, Copy, PartialEq, Eq)]
 enum End {
     Closed,
     Open,
@@ -20,96 +19,102 @@ enum End {
     Wide,
 }
 
-/// How the elimination of the rows ends; the certificate of one that closes is accepted.
-fn ending(rt: &impl Abort, alloc: Global, rows: &[Row]) -> Result<End, Fail> {
-    assert!(rt; are_within(rows));
+/// How the elimination of the rows ends. The certificate of one that closes must be accepted.
+fn ending(alloc: Global, rows: &[Row]) -> Result<End, Fail> {
+    if !are_within(rows) {
+        return Err(Fail::from("a row is wide"));
+    }
     match solve(alloc, rows) {
-        Ok(Solved::Closed(certificate)) => {
-            assert!(rt; accepts(rows, &certificate));
-            Ok(End::Closed)
-        }
-        Ok(Solved::Open) => Ok(End::Open),
+        Ok(solved) => ending_of(rows, &solved),
         Err(SolveEnd::Rows) => Ok(End::Rows),
         Err(SolveEnd::Wide) => Ok(End::Wide),
-        Err(SolveEnd::NoMemory) => panic!(rt; "no memory"),
+        Err(SolveEnd::NoMemory) => Err(Fail::from("no memory")),
     }
 }
+
+fn ending_of(rows: &[Row], solved: &Solved) -> Result<End, Fail> {
+    match solved {
+        Solved::Closed(certificate) if accepts(rows, certificate) => Ok(End::Closed),
+        Solved::Closed(_) => Err(Fail::from("the certificate is refused")),
+        Solved::Open => Ok(End::Open),
+    }
+}
+
+const OF_TWO_VARIABLES: [(&str, &[Pair], End); 19] = [
+    ("no rows", &[], End::Open),
+    ("a contradiction", &[(0, 0, -1)], End::Closed),
+    ("a row of no variable that holds", &[(0, 0, 0)], End::Open),
+    (
+        "a contradiction behind others",
+        &[(1, 1, 5), (0, 0, 0), (-1, 0, 2), (0, 0, -3)],
+        End::Closed,
+    ),
+    ("x <= -1, -x <= 0", &[(1, 0, -1), (-1, 0, 0)], End::Closed),
+    ("2x <= 1", &[(2, 0, 1)], End::Open),
+    ("2x <= 1, -2x <= -1", &[(2, 0, 1), (-2, 0, -1)], End::Closed),
+    ("2x == 2y + 1", &[(2, -2, 1), (-2, 2, -1)], End::Closed),
+    (
+        "2x == 3y, y == 1, which a fraction satisfies",
+        &[(2, -3, 0), (-2, 3, 0), (0, 1, 1), (0, -1, -1)],
+        End::Open,
+    ),
+    (
+        "-x + 2y <= 0, y == 2^60",
+        &[(-1, 2, 0), (0, 1, MOST), (0, -1, -MOST)],
+        End::Open,
+    ),
+    (
+        "multipliers with a common divisor",
+        &[(-4, 1, 0), (6, -1, -3), (0, 1, -9), (0, -1, 9)],
+        End::Open,
+    ),
+    (
+        "two turns and a cut",
+        &[(3, 5, 7), (-3, 1, -2), (0, -6, -6), (1, 0, 9)],
+        End::Closed,
+    ),
+    (
+        "2^60 in a sum",
+        &[(-1, 0, MOST / 2), (1, 0, MOST / 2)],
+        End::Open,
+    ),
+    (
+        "one more than 2^60 in a sum",
+        &[(-1, 0, MOST / 2), (1, 0, MOST / 2 + 1)],
+        End::Wide,
+    ),
+    (
+        "2^60 on both sides",
+        &[(-1, 0, MOST), (1, 0, MOST)],
+        End::Wide,
+    ),
+    (
+        "2y <= 2^61 before it is tightened",
+        &[(-1, 1, MOST), (1, 1, MOST), (0, 1, 0), (0, -1, 0)],
+        End::Wide,
+    ),
+    (
+        "the cheaper variable goes first, though x is less",
+        &[(-1, 1, MOST), (1, 1, MOST)],
+        End::Open,
+    ),
+    (
+        "a contradiction is built in the turn that ends Wide",
+        &[(-1, 0, -1), (-1, 0, MOST), (1, 0, 0), (1, 0, MOST)],
+        End::Wide,
+    ),
+    (
+        "the same, and the sum beyond the limit is not built",
+        &[(-1, 0, -1), (-1, 0, MOST), (1, 0, 0)],
+        End::Closed,
+    ),
+];
 
 #[test]
 fn of_two_variables(rt: HostRuntime) -> Result<(), Fail> {
     let alloc = rt.alloc();
-    let cases: [(&str, &[Pair], End); 19] = [
-        ("no rows", &[], End::Open),
-        ("a contradiction", &[(0, 0, -1)], End::Closed),
-        ("a row of no variable that holds", &[(0, 0, 0)], End::Open),
-        (
-            "a contradiction behind others",
-            &[(1, 1, 5), (0, 0, 0), (-1, 0, 2), (0, 0, -3)],
-            End::Closed,
-        ),
-        ("x <= -1, -x <= 0", &[(1, 0, -1), (-1, 0, 0)], End::Closed),
-        ("2x <= 1", &[(2, 0, 1)], End::Open),
-        ("2x <= 1, -2x <= -1", &[(2, 0, 1), (-2, 0, -1)], End::Closed),
-        ("2x == 2y + 1", &[(2, -2, 1), (-2, 2, -1)], End::Closed),
-        (
-            "2x == 3y, y == 1, which a fraction satisfies",
-            &[(2, -3, 0), (-2, 3, 0), (0, 1, 1), (0, -1, -1)],
-            End::Open,
-        ),
-        (
-            "-x + 2y <= 0, y == 2^60",
-            &[(-1, 2, 0), (0, 1, MOST), (0, -1, -MOST)],
-            End::Open,
-        ),
-        (
-            "multipliers with a common divisor",
-            &[(-4, 1, 0), (6, -1, -3), (0, 1, -9), (0, -1, 9)],
-            End::Open,
-        ),
-        (
-            "two turns and a cut",
-            &[(3, 5, 7), (-3, 1, -2), (0, -6, -6), (1, 0, 9)],
-            End::Closed,
-        ),
-        (
-            "2^60 in a sum",
-            &[(-1, 0, MOST / 2), (1, 0, MOST / 2)],
-            End::Open,
-        ),
-        (
-            "one more than 2^60 in a sum",
-            &[(-1, 0, MOST / 2), (1, 0, MOST / 2 + 1)],
-            End::Wide,
-        ),
-        (
-            "2^60 on both sides",
-            &[(-1, 0, MOST), (1, 0, MOST)],
-            End::Wide,
-        ),
-        (
-            "2y <= 2^61 before it is tightened",
-            &[(-1, 1, MOST), (1, 1, MOST), (0, 1, 0), (0, -1, 0)],
-            End::Wide,
-        ),
-        (
-            "the cheaper variable goes first, though x is less",
-            &[(-1, 1, MOST), (1, 1, MOST)],
-            End::Open,
-        ),
-        (
-            "a contradiction is built in the turn that ends Wide",
-            &[(-1, 0, -1), (-1, 0, MOST), (1, 0, 0), (1, 0, MOST)],
-            End::Wide,
-        ),
-        (
-            "the same, and the sum beyond the limit is not built",
-            &[(-1, 0, -1), (-1, 0, MOST), (1, 0, 0)],
-            End::Closed,
-        ),
-    ];
-    for (name, plain, want) in &cases {
-        let rows = pairs(alloc, plain)?;
-        assert_eq!(rt; ending(&rt, alloc, &rows)?, *want, "{name}");
+    for (name, plain, want) in &OF_TWO_VARIABLES {
+        assert!(rt; ending(alloc, &pairs(alloc, plain)?)? == *want, "{name}");
     }
     Ok(())
 }
@@ -126,13 +131,13 @@ fn upper_bounds(alloc: Global, count: u32) -> Result<Vec<Row>, Fail> {
 #[test]
 fn many_at_the_start(rt: HostRuntime) -> Result<(), Fail> {
     let alloc = rt.alloc();
-    assert_eq!(rt; MOST_ROWS, 2000);
+    assert!(rt; MOST_ROWS == 2000);
     let mut rows = upper_bounds(alloc, 2000)?;
     // Once tightened it is the first row.
     rows.push(row(alloc, (&[(3, 2)], 1))?)?;
-    assert_eq!(rt; ending(&rt, alloc, &rows)?, End::Open);
+    assert!(rt; ending(alloc, &rows)? == End::Open);
     rows.push(row(alloc, (&[], -1))?)?;
-    assert_eq!(rt; ending(&rt, alloc, &rows)?, End::Rows);
+    assert!(rt; ending(alloc, &rows)? == End::Rows);
     Ok(())
 }
 
@@ -160,7 +165,7 @@ fn many_in_a_turn(rt: HostRuntime) -> Result<(), Fail> {
     ];
     for (lowers, uppers, beside, want) in &cases {
         let rows = bounds(alloc, *lowers, *uppers, *beside)?;
-        assert_eq!(rt; ending(&rt, alloc, &rows)?, *want);
+        assert!(rt; ending(alloc, &rows)? == *want);
     }
     Ok(())
 }
@@ -180,7 +185,7 @@ fn of_a_hundred_variables(rt: HostRuntime) -> Result<(), Fail> {
     let alloc = rt.alloc();
     for (bound, want) in &[(0, End::Open), (-1, End::Closed)] {
         let rows = ring(alloc, 99, *bound)?;
-        assert_eq!(rt; ending(&rt, alloc, &rows)?, *want);
+        assert!(rt; ending(alloc, &rows)? == *want);
     }
     Ok(())
 }
