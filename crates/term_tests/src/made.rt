@@ -1,62 +1,72 @@
 //! Terms from words.
 
-use lk_terms::{Sort, Term};
+use lk_terms::{Sort, Term, compare};
+use owned_results::both;
 use slang_values::{Binary, Quantifier, Unary};
 use sqlite_items::{Boxed, Items};
-use std::alloc::Global;
+use std::alloc::{AllocError, Global};
+use std::cmp::Ordering;
 use std::test::Fail;
 
-const UNARY: [(&str, Unary); 6] = [
-    ("neg", Unary::Neg),
-    ("not", Unary::Not),
-    ("size", Unary::Size),
-    (".0", Unary::Field(0)),
-    (".1", Unary::Field(1)),
-    (".4294967295", Unary::Field(4294967295)),
-];
-
-const BINARY: [(&str, Binary); 13] = [
-    ("+", Binary::Add),
-    ("-", Binary::Sub),
-    ("*", Binary::Mul),
-    ("/", Binary::Div),
-    ("%", Binary::Rem),
-    ("&", Binary::And),
-    ("|", Binary::Or),
-    ("->:", Binary::Imply),
-    ("==", Binary::Eq),
-    ("<", Binary::Lt),
-    ("<=", Binary::Le),
-    ("at", Binary::Read),
-    (":+", Binary::Append),
-];
-
-/// What stands in front of a list of parts.
+/// What a word makes of the terms in front of it.
 #[derive(Clone, Copy)]
-enum Front {
-    Numbers,
-    Truths,
+enum Head {
+    Unary(Unary),
+    Binary(Binary),
+    Update,
+    Quantified(Quantifier),
+    /// Of so many elements.
+    Sequence(Element, usize),
+    /// The record of that number, of so many fields.
+    Record(u32, usize),
+}
+
+/// What a sequence holds.
+#[derive(Clone, Copy)]
+enum Element {
+    Number,
+    Truth,
     /// Sequences of numbers.
-    Sequences,
-    /// Of the record of that number.
-    Records(u32),
+    Numbers,
+    /// The record of that number.
     Record(u32),
 }
 
-/// With how many parts each takes.
-const FRONTS: [(&str, Front, usize); 12] = [
-    ("Z:0", Front::Numbers, 0),
-    ("Z:1", Front::Numbers, 1),
-    ("Z:2", Front::Numbers, 2),
-    ("B:0", Front::Truths, 0),
-    ("B:1", Front::Truths, 1),
-    ("ZZ:0", Front::Sequences, 0),
-    ("ZZ:1", Front::Sequences, 1),
-    ("R:0", Front::Records(0), 0),
-    ("R1:0", Front::Records(1), 0),
-    ("rec:2", Front::Record(0), 2),
-    ("rec1:0", Front::Record(1), 0),
-    ("rec1:3", Front::Record(1), 3),
+const HEADS: [(&str, Head); 34] = [
+    ("neg", Head::Unary(Unary::Neg)),
+    ("not", Head::Unary(Unary::Not)),
+    ("size", Head::Unary(Unary::Size)),
+    (".0", Head::Unary(Unary::Field(0))),
+    (".1", Head::Unary(Unary::Field(1))),
+    (".4294967295", Head::Unary(Unary::Field(4294967295))),
+    ("+", Head::Binary(Binary::Add)),
+    ("-", Head::Binary(Binary::Sub)),
+    ("*", Head::Binary(Binary::Mul)),
+    ("/", Head::Binary(Binary::Div)),
+    ("%", Head::Binary(Binary::Rem)),
+    ("&", Head::Binary(Binary::And)),
+    ("|", Head::Binary(Binary::Or)),
+    ("->:", Head::Binary(Binary::Imply)),
+    ("==", Head::Binary(Binary::Eq)),
+    ("<", Head::Binary(Binary::Lt)),
+    ("<=", Head::Binary(Binary::Le)),
+    ("at", Head::Binary(Binary::Read)),
+    (":+", Head::Binary(Binary::Append)),
+    ("upd", Head::Update),
+    ("all", Head::Quantified(Quantifier::All)),
+    ("exists", Head::Quantified(Quantifier::Exists)),
+    ("Z:0", Head::Sequence(Element::Number, 0)),
+    ("Z:1", Head::Sequence(Element::Number, 1)),
+    ("Z:2", Head::Sequence(Element::Number, 2)),
+    ("B:0", Head::Sequence(Element::Truth, 0)),
+    ("B:1", Head::Sequence(Element::Truth, 1)),
+    ("ZZ:0", Head::Sequence(Element::Numbers, 0)),
+    ("ZZ:1", Head::Sequence(Element::Numbers, 1)),
+    ("R:0", Head::Sequence(Element::Record(0), 0)),
+    ("R1:0", Head::Sequence(Element::Record(1), 0)),
+    ("rec:2", Head::Record(0, 2)),
+    ("rec1:0", Head::Record(1, 0)),
+    ("rec1:3", Head::Record(1, 3)),
 ];
 
 /// The terms that wait for their operator. In a box a term is let go by one call.
@@ -66,43 +76,37 @@ type Stack = Items<Boxed<Term>>;
 /// innermost bound variable.
 pub fn term(alloc: Global, words: &str) -> Result<Boxed<Term>, Fail> {
     let mut stack = Items::new(alloc);
-    for word in words.split(' ') {
-        let next = node(alloc, &mut stack, word)?;
-        stack.push(next)?;
-    }
+    read(alloc, &mut stack, words)?;
     Ok(stack.pop().ok_or("no term")?)
 }
 
-fn node(alloc: Global, stack: &mut Stack, word: &str) -> Result<Boxed<Term>, Fail> {
-    for (sign, op) in &UNARY {
-        if *sign == word {
-            return unary(alloc, stack, *op);
-        }
-    }
-    for (sign, op) in &BINARY {
-        if *sign == word {
-            return binary(alloc, stack, *op);
-        }
-    }
-    for (sign, front, count) in &FRONTS {
-        if *sign == word {
-            return with_front(alloc, stack, *front, *count);
-        }
-    }
-    match word {
-        "upd" => update(alloc, stack),
-        "all" => quantified(alloc, stack, Quantifier::All),
-        "exists" => quantified(alloc, stack, Quantifier::Exists),
-        _ => leaf(alloc, word),
-    }
+/// Whether it is the term that the words spell.
+pub fn is_spelled(alloc: Global, given: &Term, words: &str) -> Result<bool, Fail> {
+    Ok(compare(given, term(alloc, words)?.get()) == Ordering::Equal)
 }
 
-fn leaf(alloc: Global, word: &str) -> Result<Boxed<Term>, Fail> {
-    Ok(Boxed::new(alloc, leaf_term(word)?)?)
+fn read(alloc: Global, stack: &mut Stack, words: &str) -> Result<(), Fail> {
+    for word in words.split(' ') {
+        let made = match head_of(word) {
+            Some(head) => headed(alloc, stack, head)?,
+            None => leaf(word)?,
+        };
+        stack.push(Boxed::new(alloc, made)?)?;
+    }
+    Ok(())
+}
+
+fn head_of(word: &str) -> Option<Head> {
+    for (sign, head) in &HEADS {
+        if *sign == word {
+            return Some(*head);
+        }
+    }
+    None
 }
 
 /// A truth value, a symbol, by its letter, a bound variable or a number.
-fn leaf_term(word: &str) -> Result<Term, Fail> {
+fn leaf(word: &str) -> Result<Term, Fail> {
     match word {
         "T" => return Ok(Term::truth(true)),
         "F" => return Ok(Term::truth(false)),
@@ -117,75 +121,76 @@ fn leaf_term(word: &str) -> Result<Term, Fail> {
     Ok(Term::Lit(word.parse::<i128>().map_err(|_| "no number")?))
 }
 
-fn unary(alloc: Global, stack: &mut Stack, op: Unary) -> Result<Boxed<Term>, Fail> {
-    let a = stack.pop().ok_or("no part")?;
-    Ok(Boxed::new(alloc, Term::unary(alloc, op, a.into_inner())?)?)
+/// The term of this operator and of the last terms, which are taken.
+fn headed(alloc: Global, stack: &mut Stack, head: Head) -> Result<Term, Fail> {
+    if stack.len() < part_count(head) {
+        return Err(Fail::from("no part"));
+    }
+    match head {
+        Head::Unary(op) => Ok(Term::unary(alloc, op, last(stack))?),
+        Head::Binary(op) => {
+            let (b, a) = (last(stack), last(stack));
+            Ok(Term::binary(alloc, op, a, b)?)
+        }
+        Head::Update => {
+            let (x, i, a) = (last(stack), last(stack), last(stack));
+            Ok(Term::update(alloc, a, i, x)?)
+        }
+        Head::Quantified(quantifier) => {
+            let (body, high, low) = (last(stack), last(stack), last(stack));
+            Ok(Term::quantified(alloc, quantifier, low, high, body)?)
+        }
+        Head::Sequence(element, count) => {
+            let (sort, parts) = both(sort_of(alloc, element), last_of(alloc, stack, count))?;
+            Ok(Term::SeqLit(sort, parts))
+        }
+        Head::Record(number, count) => Ok(Term::Rec(number, last_of(alloc, stack, count)?)),
+    }
 }
 
-fn binary(alloc: Global, stack: &mut Stack, op: Binary) -> Result<Boxed<Term>, Fail> {
-    let b = stack.pop().ok_or("no part")?;
-    let a = stack.pop().ok_or("no part")?;
-    Ok(Boxed::new(
-        alloc,
-        Term::binary(alloc, op, a.into_inner(), b.into_inner())?,
-    )?)
+fn part_count(head: Head) -> usize {
+    match head {
+        Head::Unary(_) => 1,
+        Head::Binary(_) => 2,
+        Head::Update | Head::Quantified(_) => 3,
+        Head::Sequence(_, count) | Head::Record(_, count) => count,
+    }
 }
 
-/// Three parts from the left.
-fn three(stack: &mut Stack) -> Result<(Boxed<Term>, Boxed<Term>, Boxed<Term>), Fail> {
-    let c = stack.pop().ok_or("no part")?;
-    let b = stack.pop().ok_or("no part")?;
-    let a = stack.pop().ok_or("no part")?;
-    Ok((a, b, c))
+fn sort_of(alloc: Global, element: Element) -> Result<Sort, AllocError> {
+    match element {
+        Element::Number => Ok(Sort::Z),
+        Element::Truth => Ok(Sort::B),
+        Element::Numbers => Ok(Sort::Seq(Boxed::new(alloc, Sort::Z)?)),
+        Element::Record(number) => Ok(Sort::Rec(number)),
+    }
 }
 
-fn update(alloc: Global, stack: &mut Stack) -> Result<Boxed<Term>, Fail> {
-    let (a, i, x) = three(stack)?;
-    let term = Term::update(alloc, a.into_inner(), i.into_inner(), x.into_inner())?;
-    Ok(Boxed::new(alloc, term)?)
-}
-
-fn quantified(
-    alloc: Global,
-    stack: &mut Stack,
-    quantifier: Quantifier,
-) -> Result<Boxed<Term>, Fail> {
-    let (low, high, body) = three(stack)?;
-    let (low, high, body) = (low.into_inner(), high.into_inner(), body.into_inner());
-    Ok(Boxed::new(alloc, Term::quantified(alloc, quantifier, low, high, body)?)?)
-}
-
-fn with_front(
-    alloc: Global,
-    stack: &mut Stack,
-    front: Front,
-    count: usize,
-) -> Result<Boxed<Term>, Fail> {
-    let parts = last_of(alloc, stack, count)?;
-    let term = match front {
-        Front::Numbers => Term::SeqLit(Sort::Z, parts),
-        Front::Truths => Term::SeqLit(Sort::B, parts),
-        Front::Sequences => sequences(alloc, parts)?,
-        Front::Records(n) => Term::SeqLit(Sort::Rec(n), parts),
-        Front::Record(n) => Term::Rec(n, parts),
-    };
-    Ok(Boxed::new(alloc, term)?)
-}
-
-fn sequences(alloc: Global, parts: Items<Term>) -> Result<Term, Fail> {
-    let element = Boxed::new(alloc, Sort::Z)?;
-    Ok(Term::SeqLit(Sort::Seq(element), parts))
+/// The last term, or 0 where there is none.
+fn last(stack: &mut Stack) -> Term {
+    match stack.pop() {
+        Some(term) => term.into_inner(),
+        None => Term::Lit(0),
+    }
 }
 
 /// So many terms, from the left.
-fn last_of(alloc: Global, stack: &mut Stack, count: usize) -> Result<Items<Term>, Fail> {
+fn last_of(alloc: Global, stack: &mut Stack, count: usize) -> Result<Items<Term>, AllocError> {
     let mut turned = Items::new(alloc);
-    for _ in 0..count {
-        turned.push(stack.pop().ok_or("no part")?)?;
-    }
+    move_last(stack, &mut turned, count)?;
     let mut parts = Items::new(alloc);
     for _ in 0..count {
-        parts.push(turned.pop().ok_or("no part")?.into_inner())?;
+        parts.push(last(&mut turned))?;
     }
     Ok(parts)
+}
+
+/// Moves so many terms, the last first.
+fn move_last(from: &mut Stack, to: &mut Stack, count: usize) -> Result<(), AllocError> {
+    for _ in 0..count {
+        if let Some(term) = from.pop() {
+            to.push(term)?;
+        }
+    }
+    Ok(())
 }

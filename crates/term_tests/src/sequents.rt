@@ -3,10 +3,11 @@ ghost use Rattle.term_trees.specs.Term.{sort_type, tree};
 ghost use Rattle.lk_terms.specs.Sequent.{sequent_of};
 ghost use Rattle.term_tests.specs.Examples.{is_bounded, bounded_then, SequentsAreJudged, TablesAreJudged, PartsAreLimited};
 
-use lk_terms::{NoMemory, Sequent, Sort, Term};
+use lk_terms::{NoMemory, Sequent, Sort, Term, is_closed};
 use slang_values::{Binary, Unary};
 use sqlite_items::{Boxed, Items};
 use std::alloc::Global;
+use std::test::Fail;
 
 /// Which sequents are well sorted, and which are valid.
 pub fn examples()
@@ -73,24 +74,10 @@ pub fn bounded_field(alloc: Global) -> Result<Sequent, NoMemory>
     })
 }
 
-#[cfg(test)]
-mod tests {
-    use super::*;
-    use lk_terms::{is_closed, laws};
-    use std::test::Fail;
-
-    #[test]
-    fn sequents_are_made(rt: HostRuntime) -> Result<(), Fail> {
-        let sequent = bounded_field(rt.alloc())?;
-        assert_eq!(rt; sequent.sorts.len(), 2);
-        assert_eq!(rt; sequent.records.len(), 1);
-        assert_eq!(rt; sequent.facts.len(), 1);
-        assert!(rt; is_closed(&sequent.goal));
-        laws::substitution::<u32>();
-        laws::validity();
-        examples();
-        tables();
-        part_limits();
-        Ok(())
-    }
+#[test]
+fn sequents_are_made(rt: HostRuntime) -> Result<(), Fail> {
+    let sequent = bounded_field(rt.alloc())?;
+    assert!(rt; sequent.sorts.len() == 2 && sequent.records.len() == 1 && sequent.facts.len() == 1);
+    assert!(rt; is_closed(&sequent.goal));
+    Ok(())
 }

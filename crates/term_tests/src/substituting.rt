@@ -1,11 +1,9 @@
 //! Terms in place of bound variables, and which bound variables are loose.
 
-use crate::made::term;
-use lk_terms::{compare, is_closed, substitute};
+use crate::made::{is_spelled, term};
+use lk_terms::{Term, is_closed, substitute};
 use sqlite_items::Boxed;
 use std::alloc::Global;
-use std::cmp::Ordering;
-use std::process::Abort;
 use std::test::Fail;
 
 /// A term, the number of a bound variable, what is put in its place, and the term with it.
@@ -95,21 +93,19 @@ const CASES: [Case; 26] = [
     ),
 ];
 
-fn check(rt: &impl Abort, alloc: Global, case: Case) -> Result<(), Fail> {
-    let (words, bound, by, whole) = case;
-    let given = term(alloc, words)?;
+fn is_so(alloc: Global, case: &Case) -> Result<bool, Fail> {
+    let (words, bound, by, whole) = *case;
     let by = term(alloc, by)?;
-    if !is_closed(by.get()) {
-        return Err(Fail::from("a loose bound variable is put in"));
+    is_put_in(alloc, words, bound, by.get(), whole)
+}
+
+fn is_put_in(alloc: Global, words: &str, bound: u32, by: &Term, whole: &str) -> Result<bool, Fail> {
+    if !is_closed(by) {
+        return Ok(false);
     }
-    let made = Boxed::new(alloc, substitute(alloc, given.get(), bound, by.get())?)?;
-    let whole = term(alloc, whole)?;
-    assert_eq!(rt;
-        compare(made.get(), whole.get()),
-        Ordering::Equal,
-        "{words} {bound}"
-    );
-    Ok(())
+    let given = term(alloc, words)?;
+    let made = Boxed::new(alloc, substitute(alloc, given.get(), bound, by)?)?;
+    is_spelled(alloc, made.get(), whole)
 }
 
 const CLOSED: [(&str, bool); 20] = [
@@ -139,11 +135,11 @@ const CLOSED: [(&str, bool); 20] = [
 fn substitutions(rt: HostRuntime) -> Result<(), Fail> {
     let alloc = rt.alloc();
     for case in &CASES {
-        check(&rt, alloc, *case)?;
+        let words = case.0;
+        assert!(rt; is_so(alloc, case)?, "{words}");
     }
-    for &(words, closed) in &CLOSED {
-        let given = term(alloc, words)?;
-        assert_eq!(rt; is_closed(given.get()), closed, "{words}");
+    for (words, closed) in &CLOSED {
+        assert!(rt; is_closed(term(alloc, words)?.get()) == *closed, "{words}");
     }
     Ok(())
 }

@@ -1,14 +1,14 @@
 //! What terms are taken apart into, their order, their copies and their sizes.
 
-use crate::made::term;
+use crate::made::{is_spelled, term};
 use lk_terms::{Shape, Sort, Term, compare, copy, measure};
 use sqlite_items::{Boxed, Items};
 use std::alloc::Global;
 use std::cmp::Ordering;
-use std::process::Abort;
 use std::test::Fail;
 
-/// Each before the next: by kind, then by the number or the sort in the node, then by how many parts, then by the parts.
+/// Each before the next: by kind, then by the number or the sort in the node, then by how many parts, then by the
+/// parts.
 const ORDERED: [&str; 70] = [
     "-170141183460469231731687303715884105728",
     "-1",
@@ -92,12 +92,21 @@ fn order_and_copies(rt: HostRuntime) -> Result<(), Fail> {
     for words in &ORDERED {
         terms.push(term(alloc, words)?)?;
     }
-    for (i, a) in terms.as_slice().iter().enumerate() {
-        for (j, b) in terms.as_slice().iter().enumerate() {
-            assert_eq!(rt; compare(a.get(), b.get()), i.cmp(&j), "{i} {j}");
+    in_order(alloc, terms.as_slice())
+}
+
+/// Each is before the next ones and equal to its copy alone.
+fn in_order(alloc: Global, terms: &[Boxed<Term>]) -> Result<(), Fail> {
+    for (i, a) in terms.iter().enumerate() {
+        for (j, b) in terms.iter().enumerate() {
+            if compare(a.get(), b.get()) != i.cmp(&j) {
+                return Err(Fail::from("two terms are out of order"));
+            }
         }
         let same = Boxed::new(alloc, copy(alloc, a.get())?)?;
-        assert_eq!(rt; compare(same.get(), a.get()), Ordering::Equal, "{i}");
+        if compare(same.get(), a.get()) != Ordering::Equal {
+            return Err(Fail::from("a copy is another term"));
+        }
     }
     Ok(())
 }
@@ -159,37 +168,49 @@ fn kind(term: &Term) -> &'static str {
     }
 }
 
-fn check(rt: &impl Abort, alloc: Global, case: Case) -> Result<(), Fail> {
-    let (words, what, nodes, height, parts) = case;
-    let given = term(alloc, words)?;
-    assert_eq!(rt; kind(given.get()), what, "{words}");
-    assert_eq!(rt; measure(given.get()).nodes, nodes, "{words}");
-    assert_eq!(rt; measure(given.get()).height, height, "{words}");
-    assert_eq!(rt; given.get().part_count(), parts.len(), "{words}");
-    for place in 0..given.get().part_count() {
-        let part = term(alloc, parts[place])?;
-        assert_eq!(rt;
-            compare(given.get().part(place), part.get()),
-            Ordering::Equal,
-            "{words}"
-        );
+fn is_so(alloc: Global, given: &Term, case: &Case) -> Result<bool, Fail> {
+    let (_, what, nodes, height, parts) = *case;
+    let size = measure(given);
+    if kind(given) != what || size.nodes != nodes || size.height != height {
+        return Ok(false);
     }
-    Ok(())
+    if given.part_count() != parts.len() {
+        return Ok(false);
+    }
+    for (place, words) in parts.iter().enumerate() {
+        if place >= given.part_count() || !is_spelled(alloc, given.part(place), words)? {
+            return Ok(false);
+        }
+    }
+    Ok(true)
 }
 
 #[test]
 fn shapes_and_sizes(rt: HostRuntime) -> Result<(), Fail> {
     let alloc = rt.alloc();
     for case in &SHAPES {
-        check(&rt, alloc, *case)?;
-    }
-    let sort = Sort::Seq(Boxed::new(alloc, Sort::Rec(7))?);
-    match sort.copy(alloc)? {
-        Sort::Seq(element) => match element.get() {
-            Sort::Rec(n) => assert_eq!(rt; *n, 7),
-            _ => panic!(rt; "no record"),
-        },
-        _ => panic!(rt; "no sequence"),
+        let words = case.0;
+        let given = term(alloc, words)?;
+        assert!(rt; is_so(alloc, given.get(), case)?, "{words}");
     }
     Ok(())
+}
+
+#[test]
+fn copied_sorts(rt: HostRuntime) -> Result<(), Fail> {
+    let alloc = rt.alloc();
+    let sort = Sort::Seq(Boxed::new(alloc, Sort::Rec(7))?);
+    let same = sort.copy(alloc)?;
+    assert!(rt; is_sequence_of_record(&same, 7));
+    Ok(())
+}
+
+fn is_sequence_of_record(sort: &Sort, number: u32) -> bool {
+    match sort {
+        Sort::Seq(element) => match element.get() {
+            Sort::Rec(n) => *n == number,
+            _ => false,
+        },
+        _ => false,
+    }
 }

@@ -1,4 +1,4 @@
-ghost use Rattle.form_tests.specs.Values.{DivisionsOfEachSign, ReadsAndUpdates, Ranges};
+ghost use Rattle.term_tests.specs.Values.{DivisionsOfEachSign, ReadsAndUpdates, Ranges};
 
 /// Quotients and remainders of each sign, and by zero.
 pub fn divisions_of_each_sign()

@@ -1,13 +1,10 @@
 //! Forms and their terms, and terms that have none.
 
-use crate::made::term;
+use crate::made::{is_spelled, term};
+use lk_terms::{Form, FormEnd, form_term, linear_form};
 use sqlite_items::Boxed;
 use std::alloc::Global;
-use std::cmp::Ordering;
-use std::process::Abort;
 use std::test::Fail;
-use term_forms::{FormEnd, form_term, linear_form};
-use term_walks::compare;
 
 /// A term, the parts of its form as times and atoms, the constant, and the term of the form.
 type Case = (
@@ -17,38 +14,29 @@ type Case = (
     &'static str,
 );
 
-fn check(rt: &impl Abort, alloc: Global, case: Case) -> Result<(), Fail> {
-    let (words, parts, constant, whole) = case;
-    let given = term(alloc, words)?;
-    let form = match linear_form(alloc, given.get()) {
-        Ok(form) => form,
-        Err(end) => panic!(rt; "{words}: {end:?}"),
-    };
-    assert_eq!(rt; form.parts.len(), parts.len(), "{words}");
-    assert_eq!(rt; form.constant, constant, "{words}");
+fn is_so(alloc: Global, case: &Case) -> Result<bool, Fail> {
+    let given = term(alloc, case.0)?;
+    match linear_form(alloc, given.get()) {
+        Ok(form) => is_form(alloc, &form, case),
+        Err(_) => Ok(false),
+    }
+}
+
+fn is_form(alloc: Global, form: &Form, case: &Case) -> Result<bool, Fail> {
+    let (_, parts, constant, whole) = *case;
+    if form.parts.len() != parts.len() || form.constant != constant {
+        return Ok(false);
+    }
     for (part, (times, atom)) in form.parts.iter().zip(parts) {
-        assert_eq!(rt; part.times, *times, "{words}");
-        let atom = term(alloc, atom)?;
-        assert_eq!(rt; compare(&part.atom, atom.get()), Ordering::Equal, "{words}");
+        if part.times != *times || !is_spelled(alloc, &part.atom, atom)? {
+            return Ok(false);
+        }
     }
-    let of_form = Boxed::new(alloc, form_term(alloc, &form)?)?;
-    let whole = term(alloc, whole)?;
-    assert_eq!(rt;
-        compare(of_form.get(), whole.get()),
-        Ordering::Equal,
-        "{words}"
-    );
-    Ok(())
+    let of_form = Boxed::new(alloc, form_term(alloc, form)?)?;
+    is_spelled(alloc, of_form.get(), whole)
 }
 
-fn check_all(rt: &impl Abort, alloc: Global, cases: &[Case]) -> Result<(), Fail> {
-    for case in cases {
-        check(rt, alloc, *case)?;
-    }
-    Ok(())
-}
-
-const SUMS_AND_PRODUCTS: [Case; 20] = [
+const CASES: [Case; 50] = [
     // Numbers, and atoms that cancel.
     ("5", &[], 5, "5"),
     ("x", &[(1, "x")], 0, "x"),
@@ -83,14 +71,6 @@ const SUMS_AND_PRODUCTS: [Case; 20] = [
     ("x y * z *", &[(1, "z x y * *")], 0, "z x y * *"),
     ("2 x * y *", &[(1, "y 2 x * *")], 0, "y 2 x * *"),
     ("x x * x x * +", &[(2, "x x *")], 0, "2 x x * *"),
-];
-
-#[test]
-fn sums_and_products(rt: HostRuntime) -> Result<(), Fail> {
-    check_all(&rt, rt.alloc(), &SUMS_AND_PRODUCTS)
-}
-
-const DIVISIONS: [Case; 12] = [
     ("x 3 /", &[(1, "x 3 /")], 0, "x 3 /"),
     ("x 3 %", &[(1, "x"), (-3, "x 3 /")], 0, "x -3 x 3 / * +"),
     ("x 3 % 3 x 3 / * +", &[(1, "x")], 0, "x"),
@@ -109,14 +89,6 @@ const DIVISIONS: [Case; 12] = [
     ("x -3 %", &[(1, "x -3 %")], 0, "x -3 %"),
     ("x y y - %", &[(1, "x 0 %")], 0, "x 0 %"),
     ("x x + y %", &[(1, "2 x * y %")], 0, "2 x * y %"),
-];
-
-#[test]
-fn divisions(rt: HostRuntime) -> Result<(), Fail> {
-    check_all(&rt, rt.alloc(), &DIVISIONS)
-}
-
-const ATOMS: [Case; 12] = [
     ("s size s size +", &[(2, "s size")], 0, "2 s size *"),
     (
         "r .0 s x at + s size +",
@@ -134,30 +106,30 @@ const ATOMS: [Case; 12] = [
         "s x 1 + 0 upd size",
     ),
     (
-        "x x - y 0 + seq size",
-        &[(1, "0 y seq size")],
+        "x x - y 0 + Z:2 size",
+        &[(1, "0 y Z:2 size")],
         0,
-        "0 y seq size",
+        "0 y Z:2 size",
     ),
     ("s x 0 + :+ x at", &[(1, "s x :+ x at")], 0, "s x :+ x at"),
     (
-        "x x + 1 2 + rec .1",
-        &[(1, "2 x * 3 rec .1")],
+        "x x + 1 2 + rec:2 .1",
+        &[(1, "2 x * 3 rec:2 .1")],
         0,
-        "2 x * 3 rec .1",
+        "2 x * 3 rec:2 .1",
     ),
     // Below a quantifier too.
     (
-        "1 1 + 5 b0 b1 + b0 - 3 < all 7 rec .1",
-        &[(1, "2 5 b1 3 < all 7 rec .1")],
+        "1 1 + 5 b0 b1 + b0 - 3 < all 7 rec:2 .1",
+        &[(1, "2 5 b1 3 < all 7 rec:2 .1")],
         0,
-        "2 5 b1 3 < all 7 rec .1",
+        "2 5 b1 3 < all 7 rec:2 .1",
     ),
     (
-        "0 y 1 - x x == not exists 7 rec .1",
-        &[(1, "0 y -1 + x x == not exists 7 rec .1")],
+        "0 y 1 - x x == not exists 7 rec:2 .1",
+        &[(1, "0 y -1 + x x == not exists 7 rec:2 .1")],
         0,
-        "0 y -1 + x x == not exists 7 rec .1",
+        "0 y -1 + x x == not exists 7 rec:2 .1",
     ),
     // Terms that are no numbers.
     ("x x + 2 <", &[(1, "2 x * 2 <")], 0, "2 x * 2 <"),
@@ -167,15 +139,6 @@ const ATOMS: [Case; 12] = [
         0,
         "T F & x 0 <= |",
     ),
-];
-
-#[test]
-fn atoms(rt: HostRuntime) -> Result<(), Fail> {
-    check_all(&rt, rt.alloc(), &ATOMS)
-}
-
-// 2^60, from both sides.
-const AT_THE_LIMIT: [Case; 6] = [
     (
         "1152921504606846976",
         &[],
@@ -214,11 +177,6 @@ const AT_THE_LIMIT: [Case; 6] = [
     ),
 ];
 
-#[test]
-fn at_the_limit(rt: HostRuntime) -> Result<(), Fail> {
-    check_all(&rt, rt.alloc(), &AT_THE_LIMIT)
-}
-
 const WIDE: [&str; 16] = [
     // A literal past 2^60, and those at the ends of 128 bits.
     "1152921504606846977",
@@ -238,19 +196,27 @@ const WIDE: [&str; 16] = [
     // A part of an atom, of a term that is no number, and of a quantifier's body.
     "s 1152921504606846977 at",
     "x 1152921504606846977 <",
-    "x 1152921504606846977 seq size",
-    "0 5 b0 1152921504606846977 < all 7 rec .1",
+    "x 1152921504606846977 Z:2 size",
+    "0 5 b0 1152921504606846977 < all 7 rec:2 .1",
 ];
 
 #[test]
-fn wide(rt: HostRuntime) -> Result<(), Fail> {
+fn forms(rt: HostRuntime) -> Result<(), Fail> {
     let alloc = rt.alloc();
+    for case in &CASES {
+        let words = case.0;
+        assert!(rt; is_so(alloc, case)?, "{words}");
+    }
     for words in &WIDE {
-        let given = term(alloc, words)?;
-        match linear_form(alloc, given.get()) {
-            Ok(_) => panic!(rt; "{words}: a form"),
-            Err(end) => assert_eq!(rt; end, FormEnd::Wide, "{words}"),
-        }
+        assert!(rt; is_wide(alloc, words)?, "{words}");
     }
     Ok(())
+}
+
+fn is_wide(alloc: Global, words: &str) -> Result<bool, Fail> {
+    let given = term(alloc, words)?;
+    match linear_form(alloc, given.get()) {
+        Ok(_) => Ok(false),
+        Err(end) => Ok(end == FormEnd::Wide),
+    }
 }

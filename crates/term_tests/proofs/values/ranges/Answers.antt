@@ -1,5 +1,5 @@
 use Rattle.std.proofs.Common.{refl}
-use Rattle.form_tests.proofs.values.ranges.Goals as goal
+use Rattle.term_tests.proofs.values.ranges.Goals as goal
 
 pub returns : goal.returns
 returns c = record {

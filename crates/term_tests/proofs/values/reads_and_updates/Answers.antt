@@ -1,5 +1,5 @@
 use Rattle.std.proofs.Common.{refl}
-use Rattle.form_tests.proofs.values.reads_and_updates.Goals as goal
+use Rattle.term_tests.proofs.values.reads_and_updates.Goals as goal
 
 pub returns : goal.returns
 returns c = record {

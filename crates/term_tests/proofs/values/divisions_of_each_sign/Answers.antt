@@ -1,5 +1,5 @@
 use Rattle.std.proofs.Common.{refl}
-use Rattle.form_tests.proofs.values.divisions_of_each_sign.Goals as goal
+use Rattle.term_tests.proofs.values.divisions_of_each_sign.Goals as goal
 
 pub returns : goal.returns
 returns c = record {

@@ -1,4 +1,4 @@
-use Rattle.form_tests.proofs.limits.+wide_sum.Given as goal
+use Rattle.term_tests.proofs.limits.+wide_sum.Given as goal
 
 abbrev pub decreases-wide_sum : goal.decreases-wide_sum
 decreases-wide_sum l = l.height
