@@ -81,9 +81,9 @@ module _ (records : Records) (names : ℕ → Value) where
 
   pub valid_and_i : (cs : List Cited) (c : Tree ℕ) → and_i cs c ≡ true → Cites cs → True c
   valid_and_i (claimed a ∷ claimed b ∷ []) c h s =
-      let j = joined Binary.And (λ l r. same_tree a l && same_tree b r) c h in
+      let j = joined Binary.And (λ l r. same_tree l a && same_tree r b) c h in
       let e = and_parts _ _ j.holds in
-      true_as c (binary Binary.And j.left j.right) j.is (and_from _ _ (to_same a j.left e.0 s.0) (to_same b j.right e.1 s.1.0))
+      true_as c (binary Binary.And j.left j.right) j.is (and_from _ _ (from_same j.left a e.0 s.0) (from_same j.right b e.1 s.1.0))
   valid_and_i _ c h s = absurd (false≢true h)
 
   pub valid_and_e1 : (cs : List Cited) (c : Tree ℕ) → and_e1 cs c ≡ true → Cites cs → True c
@@ -100,56 +100,56 @@ module _ (records : Records) (names : ℕ → Value) where
 
   pub valid_or_i1 : (cs : List Cited) (c : Tree ℕ) → or_i1 cs c ≡ true → Cites cs → True c
   valid_or_i1 (claimed a ∷ []) c h s =
-      let j = joined Binary.Or (λ l r. same_tree a l) c h in
-      true_as c (binary Binary.Or j.left j.right) j.is (or_left _ _ (to_same a j.left j.holds s.0))
+      let j = joined Binary.Or (λ l r. same_tree l a) c h in
+      true_as c (binary Binary.Or j.left j.right) j.is (or_left _ _ (from_same j.left a j.holds s.0))
   valid_or_i1 _ c h s = absurd (false≢true h)
 
   pub valid_or_i2 : (cs : List Cited) (c : Tree ℕ) → or_i2 cs c ≡ true → Cites cs → True c
   valid_or_i2 (claimed b ∷ []) c h s =
-      let j = joined Binary.Or (λ l r. same_tree b r) c h in
-      true_as c (binary Binary.Or j.left j.right) j.is (or_right _ _ (to_same b j.right j.holds s.0))
+      let j = joined Binary.Or (λ l r. same_tree r b) c h in
+      true_as c (binary Binary.Or j.left j.right) j.is (or_right _ _ (from_same j.right b j.holds s.0))
   valid_or_i2 _ c h s = absurd (false≢true h)
 
   pub valid_or_e : (cs : List Cited) (c : Tree ℕ) → or_e cs c ≡ true → Cites cs → True c
   valid_or_e (claimed t ∷ concluded None a (Some x) ∷ concluded None b (Some y) ∷ []) c h s =
       let p = and_parts _ _ h in
       let q = and_parts _ _ p.0 in
-      let j = joined Binary.Or (λ l r. same_tree a l && same_tree b r) t q.0 in
+      let j = joined Binary.Or (λ l r. same_tree l a && same_tree r b) t q.0 in
       let e = and_parts _ _ j.holds in
       ⊎_elim
-      (λ left. to_same x c q.1 (s.1.0 (from_same a j.left e.0 left)))
-      (λ right. to_same y c p.1 (s.1.1.0 (from_same b j.right e.1 right)))
+      (λ left. to_same x c q.1 (s.1.0 (to_same j.left a e.0 left)))
+      (λ right. to_same y c p.1 (s.1.1.0 (to_same j.right b e.1 right)))
       (or_cases (truth_here j.left) (truth_here j.right) (as_true t (binary Binary.Or j.left j.right) j.is s.0))
   valid_or_e _ c h s = absurd (false≢true h)
 
   pub valid_imply_i : (cs : List Cited) (c : Tree ℕ) → imply_i cs c ≡ true → Cites cs → True c
   valid_imply_i (concluded None a (Some b) ∷ []) c h s =
-      let j = joined Binary.Imply (λ l r. same_tree a l && same_tree b r) c h in
+      let j = joined Binary.Imply (λ l r. same_tree l a && same_tree r b) c h in
       let e = and_parts _ _ j.holds in
       true_as c (binary Binary.Imply j.left j.right) j.is
-      (from_implied _ _ (λ left. to_same b j.right e.1 (s.0 (from_same a j.left e.0 left))))
+      (from_implied _ _ (λ left. from_same j.right b e.1 (s.0 (to_same j.left a e.0 left))))
   valid_imply_i _ c h s = absurd (false≢true h)
 
   pub valid_imply_e : (cs : List Cited) (c : Tree ℕ) → imply_e cs c ≡ true → Cites cs → True c
   valid_imply_e (claimed t ∷ claimed a ∷ []) c h s =
-      let j = joined Binary.Imply (λ l r. same_tree a l && same_tree r c) t h in
+      let j = joined Binary.Imply (λ l r. same_tree l a && same_tree r c) t h in
       let e = and_parts _ _ j.holds in
       to_same j.right c e.1
-      (false_or (truth_here j.left) (truth_here j.right) (as_true t (binary Binary.Imply j.left j.right) j.is s.0) (to_same a j.left e.0 s.1.0))
+      (false_or (truth_here j.left) (truth_here j.right) (as_true t (binary Binary.Imply j.left j.right) j.is s.0) (from_same j.left a e.0 s.1.0))
   valid_imply_e _ c h s = absurd (false≢true h)
 
   pub valid_neg_i : (cs : List Cited) (c : Tree ℕ) → neg_i cs c ≡ true → Cites cs → True c
   valid_neg_i (concluded None a (Some f) ∷ []) c h s =
       let e = and_parts _ _ h in
-      let n = negated (same_tree a) c e.1 in
-      true_as c (unary Unary.Not n.part) n.is (not_from (truth_here n.part) (λ there. no_truth f e.0 (s.0 (from_same a n.part n.holds there))))
+      let n = negated (λ p. same_tree p a) c e.1 in
+      true_as c (unary Unary.Not n.part) n.is (not_from (truth_here n.part) (λ there. no_truth f e.0 (s.0 (to_same n.part a n.holds there))))
   valid_neg_i _ c h s = absurd (false≢true h)
 
   pub valid_neg_e : (cs : List Cited) (c : Tree ℕ) → neg_e cs c ≡ true → Cites cs → True c
   valid_neg_e (claimed a ∷ claimed t ∷ []) c h s =
       let e = and_parts _ _ h in
-      let n = negated (same_tree a) t e.0 in
-      absurd (not_both (truth_here n.part) (to_same a n.part n.holds s.0) (as_true t (unary Unary.Not n.part) n.is s.1.0))
+      let n = negated (λ p. same_tree p a) t e.0 in
+      absurd (not_both (truth_here n.part) (from_same n.part a n.holds s.0) (as_true t (unary Unary.Not n.part) n.is s.1.0))
   valid_neg_e _ c h s = absurd (false≢true h)
 
   pub valid_bottom_e : (cs : List Cited) (c : Tree ℕ) → bottom_e cs c ≡ true → Cites cs → True c
@@ -159,8 +159,8 @@ module _ (records : Records) (names : ℕ → Value) where
   pub valid_pbc : (cs : List Cited) (c : Tree ℕ) → pbc cs c ≡ true → Cites cs → True c
   valid_pbc (concluded None t (Some f) ∷ []) c h s =
       let e = and_parts _ _ h in
-      let n = negated (same_tree c) t e.0 in
-      from_same c n.part n.holds
+      let n = negated (λ p. same_tree p c) t e.0 in
+      to_same n.part c n.holds
       (not_not_from (truth_here n.part) (λ against. no_truth f e.1 (s.0 (true_as t (unary Unary.Not n.part) n.is against))))
   valid_pbc _ c h s = absurd (false≢true h)
 

@@ -56,7 +56,7 @@ premise facts _ c = false
 
 -- a; b gives `a & b`
 abbrev pub and_i : List Cited → Tree ℕ → Bool
-and_i (claimed a ∷ claimed b ∷ []) c = is_joined Binary.And (λ l r. same_tree a l && same_tree b r) c
+and_i (claimed a ∷ claimed b ∷ []) c = is_joined Binary.And (λ l r. same_tree l a && same_tree r b) c
 and_i _ c = false
 
 -- `a & b` gives a
@@ -71,38 +71,38 @@ and_e2 _ c = false
 
 -- a gives `a | b`
 abbrev pub or_i1 : List Cited → Tree ℕ → Bool
-or_i1 (claimed a ∷ []) c = is_joined Binary.Or (λ l r. same_tree a l) c
+or_i1 (claimed a ∷ []) c = is_joined Binary.Or (λ l r. same_tree l a) c
 or_i1 _ c = false
 
 -- b gives `a | b`
 abbrev pub or_i2 : List Cited → Tree ℕ → Bool
-or_i2 (claimed b ∷ []) c = is_joined Binary.Or (λ l r. same_tree b r) c
+or_i2 (claimed b ∷ []) c = is_joined Binary.Or (λ l r. same_tree r b) c
 or_i2 _ c = false
 
 -- `a | b`, a block from a to c, and a block from b to c give c
 abbrev pub or_e : List Cited → Tree ℕ → Bool
 or_e (claimed t ∷ concluded None a (Some x) ∷ concluded None b (Some y) ∷ []) c =
-    is_joined Binary.Or (λ l r. same_tree a l && same_tree b r) t && same_tree x c && same_tree y c
+    is_joined Binary.Or (λ l r. same_tree l a && same_tree r b) t && same_tree x c && same_tree y c
 or_e _ c = false
 
 -- a block from a to b gives `a ->: b`
 abbrev pub imply_i : List Cited → Tree ℕ → Bool
-imply_i (concluded None a (Some b) ∷ []) c = is_joined Binary.Imply (λ l r. same_tree a l && same_tree b r) c
+imply_i (concluded None a (Some b) ∷ []) c = is_joined Binary.Imply (λ l r. same_tree l a && same_tree r b) c
 imply_i _ c = false
 
 -- `a ->: b`; a gives b
 abbrev pub imply_e : List Cited → Tree ℕ → Bool
-imply_e (claimed t ∷ claimed a ∷ []) c = is_joined Binary.Imply (λ l r. same_tree a l && same_tree r c) t
+imply_e (claimed t ∷ claimed a ∷ []) c = is_joined Binary.Imply (λ l r. same_tree l a && same_tree r c) t
 imply_e _ c = false
 
 -- a block from a to `F` gives `!a`
 abbrev pub neg_i : List Cited → Tree ℕ → Bool
-neg_i (concluded None a (Some f) ∷ []) c = is_false f && is_negation (same_tree a) c
+neg_i (concluded None a (Some f) ∷ []) c = is_false f && is_negation (λ p. same_tree p a) c
 neg_i _ c = false
 
 -- a; `!a` gives `F`
 abbrev pub neg_e : List Cited → Tree ℕ → Bool
-neg_e (claimed a ∷ claimed t ∷ []) c = is_negation (same_tree a) t && is_false c
+neg_e (claimed a ∷ claimed t ∷ []) c = is_negation (λ p. same_tree p a) t && is_false c
 neg_e _ c = false
 
 -- `F` gives any claim
@@ -112,7 +112,7 @@ bottom_e _ c = false
 
 -- a block from `!a` to `F` gives a
 abbrev pub pbc : List Cited → Tree ℕ → Bool
-pbc (concluded None t (Some f) ∷ []) c = is_negation (same_tree c) t && is_false f
+pbc (concluded None t (Some f) ∷ []) c = is_negation (λ p. same_tree p c) t && is_false f
 pbc _ c = false
 
 -- a block with a Let of k from `low <= k & k < high` to P(k) gives `All(low until high)(i => P(i))`
