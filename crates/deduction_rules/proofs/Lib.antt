@@ -6,3 +6,4 @@ pub mod RangeTruth
 pub mod Kept
 pub mod Soundness
 mod Examples
+mod Table
