@@ -1,0 +1,4 @@
+pub mod Changing
+pub mod Citing
+pub mod RuleLines
+pub mod ListLines
