@@ -7,10 +7,10 @@ use Rattle.std.proofs.lemmas.List.Elements.{Contains-append_left, Contains-appen
 use Rattle.std.proofs.lemmas.Option.{none-some, same_Some, slice_get_within, get_or_from_slice_get}
 use Rattle.slang_values.specs.Tree.{Tree, Trees, no_trees, tree_then, literal, truth_literal, name, bound, unary, binary, update, quantified, listed, parts, tree_list}
 use Rattle.tree_forms.specs.Order.{head}
-use Rattle.term_store.specs.declared.node.Node.{Node}
-use Rattle.term_store.specs.Node.{node_tree, numbers, node_head}
+use Rattle.term_nodes.specs.declared.node.Node.{Node}
+use Rattle.term_nodes.specs.Node.{node_tree, numbers, node_head}
 use Rattle.term_store.specs.Store.{stored, tree_at, Holds, AreWithin, Grows, subtrees, all_subtrees, GainsAmong, GainsAtMost, nothing, the_node, AreTreesOf}
-use Rattle.term_store.proofs.Nodes.{same_by_parts, head-node_tree, parts-node_tree}
+use Rattle.term_nodes.proofs.Nodes.{same_by_parts, head-node_tree, parts-node_tree}
 use Rattle.term_store.proofs.Stores.{tree_at-push, Holds-within, tree_at-Holds, Grows-itself, Grows-Grows, Grows-push, Grows-length, Grows-tree_at}
 
 -- ---- subtrees

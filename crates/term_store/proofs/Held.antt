@@ -5,15 +5,15 @@ use Rattle.std.proofs.lemmas.List.{get_or-map, length-map}
 use Rattle.std.proofs.lemmas.List.Elements.{Contains-get_or, Contains-append_cases}
 use Rattle.std.proofs.lemmas.Option.{slice_get_within, get_or_from_slice_get}
 use Rattle.slang_values.specs.Tree.{Tree, truth_literal, parts}
-use Rattle.term_store.specs.declared.node.Node.{Node}
+use Rattle.term_nodes.specs.declared.node.Node.{Node}
 use Rattle.term_store.specs.declared.sequent.IdSequent.{IdSequent}
 use Rattle.term_store.specs.Laws.{GrowthLaws, StoreLaws}
-use Rattle.term_store.specs.Node.{numbers}
+use Rattle.term_nodes.specs.Node.{numbers}
 use Rattle.term_store.specs.Sequent.{sequent_at, IsSequentWithin}
 use Rattle.term_store.specs.Store.{stored, tree_at, IsPlaced, IsStore, Grows, subtrees}
 use Rattle.term_store.proofs.Gains.{subtrees-parts, flat_cases, trees-grow}
 use Rattle.term_store.proofs.Measures.{at_place}
-use Rattle.term_store.proofs.Nodes.{parts-node_tree}
+use Rattle.term_nodes.proofs.Nodes.{parts-node_tree}
 use Rattle.term_store.proofs.Stores.{length-stored, Holds-tree_at, Holds-within, tree_at-Holds, Grows-itself, Grows-Grows, Grows-Holds, Grows-tree_at}
 
 one_of_one : {X : Type 0} (x u : X) → Contains (x ∷ []) u → x ≡ u

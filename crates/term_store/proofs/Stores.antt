@@ -7,12 +7,13 @@ use Rattle.std.proofs.lemmas.Bool.{cases_lt}
 use Rattle.std.specs.BTreeMap.{BTreeMap, get}
 use Rattle.slang_values.specs.Tree.{Tree, truth_literal, parts}
 use Rattle.tree_forms.specs.Order.{head}
-use Rattle.term_store.specs.declared.node.Node.{Node}
-use Rattle.term_store.specs.Node.{node_tree, numbers, tree_of, node_head}
+use Rattle.term_nodes.specs.declared.node.Node.{Node}
+use Rattle.term_nodes.specs.Node.{node_tree, numbers, tree_of, node_head}
 use Rattle.term_store.specs.Store.{trees_over, stored, tree_at, Holds, AreWithin, IsPlaced, AllDistinct, IsStore, Grows}
-use Rattle.term_store.specs.declared.key.Key.{Key}
-use Rattle.term_store.specs.Key.{key_data, node_data, key_cmp, IsIndexOf}
-use Rattle.term_store.proofs.Nodes.{same_by_parts, head-node_tree, parts-node_tree, node_tree-agree}
+use Rattle.term_nodes.specs.declared.key.Key.{Key}
+use Rattle.term_nodes.specs.Key.{key_data, node_data, key_cmp}
+use Rattle.term_store.specs.Inside.{IsIndexOf}
+use Rattle.term_nodes.proofs.Nodes.{same_by_parts, head-node_tree, parts-node_tree, node_tree-agree}
 
 -- ---- lists of nodes
 

@@ -1,56 +1,21 @@
 -- What the fields of a store keep as it grows.
-use Rattle.std.proofs.Common.{◌≡◌, ℕ, ◌<◌, ◌≤◌, List, [], ◌∷◌, ◌++◌, map, length, get_or, Option, Some, None, Result, Ok, Err, IfOk, OnOk, OnErr, Bool, true, false, cond, ◌⊎◌, inl, inr, Equal, Ordering, refl, sym, ap, ap₂, ◌∙◌, subst, arith}
-use Rattle.std.specs.Ordering.{ordering_then, nat_cmp, int_cmp, is_eq}
-use Rattle.std.specs.Option.{option_cmp}
-use Rattle.std.specs.Cmp.Lexicographic.{slice_cmp}
+use Rattle.std.proofs.Common.{◌≡◌, ℕ, ◌<◌, ◌≤◌, List, [], ◌∷◌, ◌++◌, map, length, get_or, Some, None, Result, Ok, Err, IfOk, OnOk, OnErr, Bool, true, false, cond, ◌⊎◌, inl, inr, Equal, Ordering, refl, sym, ap, ◌∙◌, subst, arith}
+use Rattle.std.specs.Ordering.{is_eq}
 use Rattle.std.specs.BTreeMap.{BTreeMap, get, IsUnchanged, Updates, is_at}
 use Rattle.std.proofs.lemmas.Bool.{cases_lt}
-use Rattle.std.proofs.lemmas.Cmp.{tied_itself, nat_cmp_total, lists_total}
 use Rattle.std.proofs.lemmas.List.{get_or_append_left, get_or_push, length_push, map_push, get_or-map, length-map}
-use Rattle.std.proofs.lemmas.Map.Lookups.{exact_unsigned, exact_signed, exact_bytes}
 use Rattle.std.proofs.lemmas.Option.{none-some, same_Some}
-use Rattle.tree_forms.specs.Order.{head_cmp}
-use Rattle.tree_forms.proofs.Ordered.{head_cmp_total}
 use Rattle.term_store.specs.declared.entry.Entry.{Entry}
-use Rattle.term_store.specs.declared.key.Key.{Key}
-use Rattle.term_store.specs.declared.node.Node.{Node}
-use Rattle.term_store.specs.Inside.{nodes_in, AreMeasured, IsMeasureOver, IsWhole}
-use Rattle.term_store.specs.Key.{KeyData, key_data, node_data, key_cmp, IsIndexOf}
-use Rattle.term_store.specs.Node.{node_tree, numbers}
+use Rattle.term_nodes.specs.declared.key.Key.{Key}
+use Rattle.term_nodes.specs.declared.node.Node.{Node}
+use Rattle.term_store.specs.Inside.{nodes_in, AreMeasured, IsMeasureOver, IsIndexOf, IsWhole}
+use Rattle.term_nodes.specs.Key.{key_data, node_data, key_cmp}
+use Rattle.term_nodes.specs.Node.{node_tree, numbers}
 use Rattle.term_store.specs.Store.{stored, tree_at, AreWithin, IsPlaced, IsStore, IsMeasureOf, Holds, GainsAtMost, the_node}
 use Rattle.term_store.proofs.Measures.{IsMeasureOf-over}
-use Rattle.term_store.proofs.Nodes.{parts-node_tree}
+use Rattle.term_nodes.proofs.Keys.{key_cmp-Equal, key_cmp-same}
+use Rattle.term_nodes.proofs.Nodes.{parts-node_tree}
 use Rattle.term_store.proofs.Stores.{Holds-at, tree_at-append, tree_at-push, lacks, IsStore-push}
-
--- ---- keys
-
-then-Equal : (o p : Ordering) → ordering_then o p ≡ Equal → (o ≡ Equal) × (p ≡ Equal)
-then-Equal o p e = grind arith
-
-option_exact : (a b : Option _) → option_cmp int_cmp a b ≡ Equal → a ≡ b
-option_exact None None e = refl
-option_exact None (Some y) e = absurd (cc)
-option_exact (Some x) None e = absurd (cc)
-option_exact (Some x) (Some y) e = ap Some (exact_signed x y e)
-
--- keys that compare Equal stand for one node
-pub key_cmp-Equal : (a b : Key) → key_cmp a b ≡ Equal → key_data a ≡ key_data b
-key_cmp-Equal a b e =
-    let both = then-Equal _ _ e in
-    let h = then-Equal _ _ both.0 in
-    let g = then-Equal _ _ h.1 in
-    λ i. record {
-      head = record { kind = exact_unsigned a.head.kind b.head.kind h.0 i; number = option_exact a.head.number b.head.number g.0 i; type_numbers = exact_bytes a.head.sort.items b.head.sort.items g.1 i };
-      parts = exact_bytes a.parts.items b.parts.items both.1 i;
-    }
-
-tied_data : (a b : KeyData) → a ≡ b → ordering_then (head_cmp a.head b.head) (slice_cmp nat_cmp a.parts b.parts) ≡ Equal
-tied_data a b e =
-    subst (λ x. ordering_then (head_cmp a.head x.head) (slice_cmp nat_cmp a.parts x.parts) ≡ Equal) e
-    (ap₂ ordering_then (tied_itself head_cmp_total a.head) (tied_itself (lists_total nat_cmp_total) a.parts))
-
-pub key_cmp-same : (a b : Key) → key_data a ≡ key_data b → key_cmp a b ≡ Equal
-key_cmp-same a b e = tied_data (key_data a) (key_data b) e
 
 -- ---- the index
 

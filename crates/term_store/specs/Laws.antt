@@ -2,7 +2,7 @@
 use Rattle.std.specs.Prelude.{◌≡◌, ℕ, ◌<◌, List, length}
 use Rattle.std.specs.List.{Contains}
 use Rattle.slang_values.specs.Tree.{Tree}
-use Rattle.term_store.specs.declared.node.Node.{Node}
+use Rattle.term_nodes.specs.declared.node.Node.{Node}
 use Rattle.term_store.specs.declared.sequent.IdSequent.{IdSequent}
 use Rattle.term_store.specs.Store.{stored, tree_at, Holds, IsStore, Grows, subtrees}
 use Rattle.term_store.specs.Sequent.{sequent_at, IsSequentWithin}

@@ -2,7 +2,7 @@
 use Rattle.std.specs.Prelude.{◌<◌, List, map, length}
 use Rattle.validity.specs.Validity.{SequentTree}
 use Rattle.term_trees.specs.Term.{sort_type}
-use Rattle.term_store.specs.declared.node.Node.{Node}
+use Rattle.term_nodes.specs.declared.node.Node.{Node}
 use Rattle.term_store.specs.declared.sequent.IdSequent.{IdSequent}
 use Rattle.term_store.specs.Store.{tree_at, AreWithin}
 

@@ -3,9 +3,9 @@ use Rattle.std.specs.Prelude.{◌≡◌, ℕ, ◌<◌, ◌≤◌, ◌-◌, ◌^�
 use Rattle.std.specs.List.{AllByRecursion, Contains}
 use Rattle.slang_values.specs.Tree.{Tree, Trees, no_trees, tree_then, literal, truth_literal, name, bound, unary, binary, update, quantified, listed}
 use Rattle.slang_values.specs.Measure.{node_count, height}
-use Rattle.term_store.specs.declared.node.Node.{Node}
+use Rattle.term_nodes.specs.declared.node.Node.{Node}
 use Rattle.term_store.specs.declared.measure.Measure.{Measure}
-use Rattle.term_store.specs.Node.{node_tree, numbers, tree_of}
+use Rattle.term_nodes.specs.Node.{node_tree, numbers, tree_of}
 
 -- ---- the trees of a store
 

@@ -1,5 +1,5 @@
 use crate::measure::Measure;
-use crate::node::Node;
+use term_nodes::Node;
 
 /// One node of a store, with how large its tree is.
 #[derive(Drop)]

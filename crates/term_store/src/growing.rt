@@ -3,15 +3,15 @@ ghost use Rattle.std.specs.List.{AllByRecursion};
 ghost use Rattle.std.specs.BTreeMap.{get, IsUnchanged, Updates};
 ghost use Rattle.slang_values.specs.Tree.{Tree};
 ghost use Rattle.term_store.specs.Inside.{nodes_in, AreMeasured, IsMeasureOver, IsWhole};
-ghost use Rattle.term_store.specs.Key.{key_cmp, key_data, node_data};
-ghost use Rattle.term_store.specs.Node.{node_tree, numbers, tree_of};
+ghost use Rattle.term_nodes.specs.Key.{key_cmp, key_data, node_data};
+ghost use Rattle.term_nodes.specs.Node.{node_tree, numbers, tree_of};
 ghost use Rattle.term_store.specs.Store.{stored, tree_at, AreWithin, Holds, GainsAtMost};
 
 use crate::NoMemory;
 use crate::entry::Entry;
-use crate::key::Key;
 use crate::measure::Measure;
 use std::collections::BTreeMap;
+use term_nodes::Key;
 
 /// How large a node is over the parts with these numbers.
 pub fn measure_over(entries: &[Entry], parts: &[usize]) -> Measure

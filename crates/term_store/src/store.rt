@@ -1,14 +1,12 @@
 use crate::NoMemory;
-use crate::adding::node_over;
 use crate::entry::Entry;
 use crate::growing::{add_entry, find, measure_over};
-use crate::key::Key;
 use crate::measure::Measure;
-use crate::node::Node;
 use sqlite_items::Items;
 use std::alloc::Global;
 use std::collections::BTreeMap;
 use std::marker::Model;
+use term_nodes::{Key, Node, node_over};
 use term_trees::Term;
 
 /// Terms as numbers: a list of distinct nodes. A number is a place in it, and stands for a tree.
@@ -21,9 +19,9 @@ pub struct TermStore {
 
 impl Model for TermStore {
     ghost use Rattle.std.specs.Prelude.{List};
-    ghost use Rattle.term_store.specs.declared.node.Node.{Node};
+    ghost use Rattle.term_nodes.specs.declared.node.Node.{Node};
     ghost use Rattle.std.specs.Coded.{coded_list};
-    ghost use Rattle.term_store.specs.contracts.node.Node as node;
+    ghost use Rattle.term_nodes.specs.contracts.node.Node as node;
 
     ghost Value = { List Node };
 
@@ -40,7 +38,7 @@ impl TermStore {
     ghost use Rattle.std.specs.Prelude.{◌≡◌, ◌<◌, [], length, slice_get, Some, IfOk, OnOk, OnErr};
     ghost use Rattle.slang_values.specs.Tree.{parts};
     ghost use Rattle.term_trees.specs.Term.{tree};
-    ghost use Rattle.term_store.specs.Node.{node_tree, numbers};
+    ghost use Rattle.term_nodes.specs.Node.{node_tree, numbers};
     ghost use Rattle.term_store.specs.Store.{stored, tree_at, Holds, AreWithin, IsPlaced, IsStore, IsMeasureOf, GainsAmong, GainsAtMost, AreTreesOf, subtrees};
 
     pub fn new(alloc: Global) -> TermStore

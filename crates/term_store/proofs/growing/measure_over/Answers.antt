@@ -1,6 +1,6 @@
 use Rattle.std.proofs.Common.{◌<◌, length, get_or}
 use Rattle.std.proofs.lemmas.List.{get_or_default}
-use Rattle.term_store.specs.Node.{tree_of}
+use Rattle.term_nodes.specs.Node.{tree_of}
 use Rattle.term_store.proofs.Measures.{IsMeasureOfAll-more, at_place}
 use Rattle.term_store.proofs.growing.measure_over.Goals as goal
 

@@ -1,7 +1,7 @@
 use Rattle.std.proofs.Common.{ℕ, List, map, take}
 use Rattle.slang_values.specs.Tree.{Tree}
 use Rattle.term_store.specs.Inside.{AreMeasured}
-use Rattle.term_store.specs.Node.{tree_of}
+use Rattle.term_nodes.specs.Node.{tree_of}
 use Rattle.term_store.proofs.Measures.{IsMeasureOfAll}
 use Rattle.term_store.proofs.growing.measure_over.Given as goal
 

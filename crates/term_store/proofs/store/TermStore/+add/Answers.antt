@@ -1,7 +1,7 @@
 use Rattle.std.proofs.Common.{◌+◌, ◌∙◌, sym, ap, subst, map, take}
 use Rattle.slang_values.specs.Tree.{parts}
 use Rattle.term_trees.specs.Term.{tree}
-use Rattle.term_store.specs.Node.{node_tree}
+use Rattle.term_nodes.specs.Node.{node_tree}
 use Rattle.term_store.specs.Store.{stored, tree_at, subtrees, AreTreesOf}
 use Rattle.term_store.proofs.Gains.{node_over_tree, GainsAmong-more, GainsAmong-part, GainsAmong-after, number_of_tree, AreTreesOf-more}
 use Rattle.term_store.proofs.store.TermStore.+add.Goals as goal

@@ -1,6 +1,6 @@
 use Rattle.std.proofs.Common.{sym, subst}
 use Rattle.term_store.specs.Inside.{nodes_in}
-use Rattle.term_store.specs.Node.{node_tree}
+use Rattle.term_nodes.specs.Node.{node_tree}
 use Rattle.term_store.specs.Store.{stored, Holds}
 use Rattle.term_store.proofs.Stores.{finds}
 use Rattle.term_store.proofs.store.TermStore.add_node.Goals as goal

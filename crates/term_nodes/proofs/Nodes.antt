@@ -9,8 +9,8 @@ use Rattle.tree_forms.specs.Order.{head, head_cmp, tree_cmp}
 use Rattle.tree_forms.proofs.Ordered.{head_cmp_total, tree_cmp_total}
 use Rattle.tree_forms.proofs.TreesApart.{tree_cmp-Equal, tree_cmp-parts}
 use Rattle.term_trees.specs.Term.{trees_of}
-use Rattle.term_store.specs.declared.node.Node.{Node}
-use Rattle.term_store.specs.Node.{node_tree, numbers, node_head, tree_of}
+use Rattle.term_nodes.specs.declared.node.Node.{Node}
+use Rattle.term_nodes.specs.Node.{node_tree, numbers, node_head, tree_of}
 
 -- ---- trees by their heads and parts
 

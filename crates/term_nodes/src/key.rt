@@ -2,7 +2,7 @@ ghost use Rattle.std.specs.Prelude.{◌≡◌, [], ◌++◌, IfOk, OnOk};
 ghost use Rattle.slang_values.specs.Tree.{unary, binary, quantified};
 ghost use Rattle.term_trees.specs.Term.{sort_type};
 ghost use Rattle.tree_forms.specs.Order as order;
-ghost use Rattle.term_store.specs.Node.{shape_tree, shape_numbers};
+ghost use Rattle.term_nodes.specs.Node.{shape_tree, shape_numbers};
 
 use crate::NoMemory;
 use crate::node::{Node, NodeShape};
@@ -27,7 +27,7 @@ pub struct Key {
 
 impl Key {
     ghost use Rattle.std.specs.Prelude.{◌≡◌, IfOk};
-    ghost use Rattle.term_store.specs.Key.{key_data, node_data};
+    ghost use Rattle.term_nodes.specs.Key.{key_data, node_data};
 
     pub fn of(alloc: Global, node: &Node) -> Result<Key, NoMemory>
         ensures { IfOk result (λ k. key_data k ≡ node_data node.now) }

@@ -1,15 +1,14 @@
 -- What a node is found by: its head and the numbers of its parts.
-use Rattle.std.specs.Prelude.{◌≡◌, ℕ, ◌<◌, List, length, get_or, Some}
+use Rattle.std.specs.Prelude.{ℕ, List}
 use Rattle.std.specs.declared.cmp.Ordering.{Ordering}
 use Rattle.std.specs.Ordering.{ordering_then, nat_cmp, int_cmp}
 use Rattle.std.specs.Option.{option_cmp}
 use Rattle.std.specs.Cmp.Lexicographic.{slice_cmp}
-use Rattle.std.specs.BTreeMap.{BTreeMap, get}
 use Rattle.tree_forms.specs.Order.{Head}
-use Rattle.term_store.specs.declared.node.Node.{Node}
-use Rattle.term_store.specs.declared.key.Key.{Key}
-use Rattle.term_store.specs.declared.key.HeadKey.{HeadKey}
-use Rattle.term_store.specs.Node.{node_head, numbers}
+use Rattle.term_nodes.specs.declared.node.Node.{Node}
+use Rattle.term_nodes.specs.declared.key.Key.{Key}
+use Rattle.term_nodes.specs.declared.key.HeadKey.{HeadKey}
+use Rattle.term_nodes.specs.Node.{node_head, numbers}
 
 pub record KeyData : Type 0 where
   pub head : Head
@@ -29,9 +28,3 @@ head_key_cmp a b = ordering_then (nat_cmp a.kind b.kind) (ordering_then (option_
 
 abbrev pub key_cmp : Key → Key → Ordering
 key_cmp a b = ordering_then (head_key_cmp a.head b.head) (slice_cmp nat_cmp a.parts.items b.parts.items)
-
--- The map has exactly the nodes of the store, each with its number.
-pub record IsIndexOf (store : List Node) (places : BTreeMap Key ℕ) : Type 0 where
-  pub sound : (q : Key) (k : ℕ) → get key_cmp places q ≡ Some k → k < length store
-  pub exact : (q : Key) (k : ℕ) (d : Node) → get key_cmp places q ≡ Some k → key_data q ≡ node_data (get_or store k d)
-  pub complete : (q : Key) (k : ℕ) (d : Node) → k < length store → key_data q ≡ node_data (get_or store k d) → get key_cmp places q ≡ Some k

@@ -6,8 +6,8 @@ use Rattle.slang_values.specs.declared.operators.Binary.{Binary}
 use Rattle.slang_values.specs.declared.operators.Quantifier.{Quantifier}
 use Rattle.tree_forms.specs.Order.{Head, head}
 use Rattle.term_trees.specs.Term.{sort_type, trees_of}
-use Rattle.term_store.specs.declared.node.Node.{Node}
-use Rattle.term_store.specs.declared.node.NodeShape.{NodeShape}
+use Rattle.term_nodes.specs.declared.node.Node.{Node}
+use Rattle.term_nodes.specs.declared.node.NodeShape.{NodeShape}
 
 -- the tree with that number; a number beyond the list, which no node of a store has, stands for `T`
 abbrev pub tree_of : List (Tree ℕ) → ℕ → Tree ℕ

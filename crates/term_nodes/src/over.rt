@@ -2,8 +2,8 @@ ghost use Rattle.std.specs.Prelude.{◌≡◌, length, IfOk};
 ghost use Rattle.slang_values.specs.Tree.{parts};
 ghost use Rattle.term_trees.specs.Term.{tree};
 ghost use Rattle.tree_forms.specs.Order.{head};
-ghost use Rattle.term_store.specs.declared.node.Node.{Node};
-ghost use Rattle.term_store.specs.Node.{node_head, numbers};
+ghost use Rattle.term_nodes.specs.declared.node.Node.{Node};
+ghost use Rattle.term_nodes.specs.Node.{node_head, numbers};
 
 use crate::NoMemory;
 use crate::node::Node;

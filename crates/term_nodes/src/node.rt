@@ -58,8 +58,8 @@ pub enum NodeShape<'a> {
 }
 
 impl Node {
-    ghost use Rattle.term_store.specs.declared.node.NodeShape.{NodeShape};
-    ghost use Rattle.term_store.specs.Node.{IsShapeOf};
+    ghost use Rattle.term_nodes.specs.declared.node.NodeShape.{NodeShape};
+    ghost use Rattle.term_nodes.specs.Node.{IsShapeOf};
 
     pub fn shape(&self) -> NodeShape<'_>
         ensures { IsShapeOf self.now result }
