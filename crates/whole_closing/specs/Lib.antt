@@ -1,3 +1,4 @@
 pub mod Literals
 pub mod Closing
 pub mod Laws
+pub mod AsBefore
