@@ -1,4 +1,5 @@
-ghost use Rattle.std.specs.Prelude.{◌≡◌, length, map, IfOk, OnOk};
+ghost use Rattle.std.specs.Prelude.{◌≡◌, ◌<◌, ◌^◌, length, map, IfOk, OnOk};
+ghost use Rattle.std.specs.Result.{OkIff};
 ghost use Rattle.std.specs.List.{fold, range_with_len};
 ghost use Rattle.term_trees.specs.Term.{tree};
 ghost use Rattle.lk_ast.specs.ClaimTree.{claim_tree};
@@ -21,7 +22,7 @@ struct Reading {
 
 /// A count as a number, where there is one.
 pub fn number(count: usize) -> Result<u32, AllocError>
-    ensures { IfOk result (λ n. n ≡ count) }
+    ensures { OkIff result (count < 2 ^ 32) count }
 {
     u32::try_from(count).map_err(|_| AllocError)
 }
