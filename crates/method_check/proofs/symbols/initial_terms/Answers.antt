@@ -16,10 +16,10 @@ loop-variable-preserved c =
     let keys = c.args.order.now.keys in
     let variable = c.loop-variable.variable in
     let symbol = c.match-get_index_of.symbol in
-    let place = ap (λ n. unwrap_or (position (nat_eq n) keys) variable) c.in_ok-variable.ensures in
+    let place = ap (λ n. unwrap_or (position (nat_eq n) keys) variable) c.in_ok-variable.ensures.1 in
     let is : symbol ≡ symbol_of keys variable = elim c.match-get_index_of.branch [
-      | in-Some+in_ok-symbol-in-Some w ↦ w.symbol-is ∙ w.in_ok-symbol-in-Some.ensures ∙ ap (λ found. unwrap_or found variable) w.in-Some.ensures.index ∙ place
-      | in-None w ↦ w.symbol-is ∙ c.in_ok-variable.ensures ∙ ap (λ found. unwrap_or found variable) w.in-None.ensures.index ∙ place
+      | in-Some+in_ok-symbol-in-Some w ↦ w.symbol-is ∙ w.in_ok-symbol-in-Some.ensures.1 ∙ ap (λ found. unwrap_or found variable) w.in-Some.ensures.index ∙ place
+      | in-None w ↦ w.symbol-is ∙ c.in_ok-variable.ensures.1 ∙ ap (λ found. unwrap_or found variable) w.in-None.ensures.index ∙ place
     ] in
     ap (map tree) c.in_ok-push.ensures.ok
     ∙ map-append tree c.loop-variable.terms (Symbol symbol ∷ [])

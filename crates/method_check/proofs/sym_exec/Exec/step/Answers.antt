@@ -111,7 +111,7 @@ returns-in-Check-clause-next c =
     c.items.invariant.left
     ∙ over_check self.types (map item_tree items) self.at (store_of self.terms) (map tree self.facts) new.at c.in_ok-item-in-Check.item (store_of new.terms) (map tree new.facts)
     c.in-Check.kind claim (sequent_of c.in_ok-sequent-in-Check.sequent)
-    left c.in_ok-assume-in-Check.ensures.small c.in_ok-item-in-Check.ensures c.in_ok-sequent-in-Check.ensures.sequent c.in_ok-assume-in-Check.ensures.at
+    left c.in_ok-assume-in-Check.ensures.small c.in_ok-item-in-Check.ensures.1 c.in_ok-sequent-in-Check.ensures.sequent c.in_ok-assume-in-Check.ensures.at
     (λ number. ap (λ terms. store_of terms number) (sym c.in_ok-assume-in-Check.ensures.terms)) c.in_ok-assume-in-Check.ensures.facts
     ∙ ap (λ rest. to_show c.in_ok-item-in-Check.item c.in-Check.kind (sequent_of c.in_ok-sequent-in-Check.sequent) ∷ rest) (with_types self.types new c.args.leg.now c.in_ok-assume-in-Check.ensures.types)
 
