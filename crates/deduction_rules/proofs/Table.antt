@@ -155,7 +155,7 @@ each given = let_k 2 3 given (line 4 (within k) 18 [] ∷ line 5 (positive k) 14
 universals :
     try (all (positive (bound 0)) ∷ []) (each (within k) ++ line 6 (all (positive (bound 0))) 13 (2 ∷ []) ∷ []) ∷
     try (all (positive (bound 0)) ∷ []) (let_k 2 3 (both (within k) p) (line 4 (within k) 2 (3 ∷ []) ∷ line 5 (positive k) 14 (1 ∷ 4 ∷ []) ∷ []) ∷
-      line 6 (all (positive (bound 0))) 13 (2 ∷ []) ∷ []) ∷
+    line 6 (all (positive (bound 0))) 13 (2 ∷ []) ∷ []) ∷
     try (all (positive (bound 0)) ∷ []) (each (within k) ++ line 6 (all (positive n)) 13 (2 ∷ []) ∷ []) ∷
     try (all (positive (bound 0)) ∷ []) (each (within k) ++ line 6 (some (positive (bound 0))) 13 (2 ∷ []) ∷ []) ∷
     try [] (assuming 1 2 (within k) [] ∷ line 3 (all (within (bound 0))) 13 (1 ∷ []) ∷ []) ∷

@@ -169,7 +169,11 @@ fn streams_fail_as_they_are_told(rt: HostRuntime) -> Result<(), Fail> {
     for (calls, taken, given, flushed) in STREAMS.iter() {
         let answers = takes(alloc, &mut StdSource::new(Told::new(*calls)), 3)?;
         assert_eq!(rt; answers.as_str(), *taken);
-        let answers = gives(alloc, &mut StdSink::new(Told::new(*calls)), &["ab", "ab", "ab"])?;
+        let answers = gives(
+            alloc,
+            &mut StdSink::new(Told::new(*calls)),
+            &["ab", "ab", "ab"],
+        )?;
         assert_eq!(rt; answers.as_str(), *given);
         let answers = gives(alloc, &mut StdSink::new(Told::new(*calls)), &["", "", ""])?;
         assert_eq!(rt; answers.as_str(), *flushed);
