@@ -1,8 +1,8 @@
 #!/usr/bin/env python3
 """What `logika check` should print for a text, and its exit status, computed from the rules alone.
 
-This is an independent reading of the rules, written from their statement and not from the definitions of the proved crates, with
-which it shares no text. It is no part of the gate. It is used to find definitions that say something else than is meant: where
+This is a second reading of the rules, written from their statement, and it shares no text with the proved crates. docs/ARCHITECTURE.md
+says which of their definitions its writer knew. It is no part of the gate. It is used to find definitions that say something else than is meant: where
 it and the program differ, one of the two reads a rule wrongly.
 
 It reads the whole language already: `text.py` has tokens, grammar and first faults, `trees.py` the trees, `names.py` the rules of names
