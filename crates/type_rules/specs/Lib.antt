@@ -1,0 +1,14 @@
+pub mod Faults
+pub mod Meanings
+pub mod Judged
+pub mod TypeNames
+pub mod Expressions
+pub mod Constants
+pub mod Steps
+pub mod Statements
+pub mod Records
+pub mod Projects
+pub mod LeftOut
+pub mod Written
+pub mod Examples
+pub mod Laws
