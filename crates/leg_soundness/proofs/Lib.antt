@@ -1,5 +1,5 @@
+pub mod Members
 pub mod Names
 pub mod Demands
 pub mod Items
-pub mod Safety
-pub mod Starts
+pub mod Ready

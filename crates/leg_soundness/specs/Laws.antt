@@ -1,13 +1,18 @@
--- What holds where legs pass.
-use Rattle.slang_values.specs.Value.{AreWellFormed}
-use Rattle.program_trees.specs.Programs.{MethodTree, ProgramTree}
-use Rattle.program_trees.specs.Variables.{Variable}
-use Rattle.run_rules.specs.Runs.{IsSafe}
-use Rattle.leg_soundness.specs.Passing.{LegsPass}
-use Rattle.leg_soundness.specs.Scopes.{IsInOrderMethod, AreConstants}
+-- What holds of the demands of an expression.
+use Rattle.std.specs.Prelude.{◌≡◌, true, None}
+use Rattle.std.specs.List.{AllByRecursion}
+use Rattle.slang_values.specs.Value.{ValueType, AreWellFormed}
+use Rattle.slang_values.specs.Typing.{FitNames}
+use Rattle.program_trees.specs.Programs.{TypedExpr, MethodTree, ProgramTree}
+use Rattle.program_trees.specs.Variables.{Variable, variable_types}
+use Rattle.run_rules.specs.Values.{Values, is_true}
+use Rattle.run_rules.specs.Evaluation.{failing}
+use Rattle.leg_rules.specs.Checks.{demands}
+use Rattle.leg_soundness.specs.Scopes.{Scope, IsExpr}
 
--- Where the legs of a method without calls pass, no run of it fails.
-abbrev pub PassingLegsAreSafe : Type 0
-PassingLegsAreSafe =
-    (program : ProgramTree Variable) (method : MethodTree Variable) → AreWellFormed program.records → AreConstants program →
-    IsInOrderMethod program method → LegsPass program method → IsSafe program method
+-- A typed expression does not fail where its demands hold, whatever values of their types the variables have.
+abbrev pub MetDemandsSuffice : Type 0
+MetDemandsSuffice =
+    (program : ProgramTree Variable) (method : MethodTree Variable) (scope : Scope) (values : Values) (t : ValueType) (expr : TypedExpr Variable) →
+    AreWellFormed program.records → FitNames program.records (variable_types program method) values → IsExpr program method scope t expr →
+    AllByRecursion (λ d. is_true program.records values d.claim ≡ true) (demands expr) → failing program.records values expr ≡ None

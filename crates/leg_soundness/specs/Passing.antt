@@ -1,5 +1,5 @@
 -- What it means that a leg passes: along it each check holds where the assumptions before it do.
-use Rattle.std.specs.Prelude.{◌≡◌, true, List, [], ◌∷◌, if◌then◌else◌}
+use Rattle.std.specs.Prelude.{◌≡◌, ℕ, true, List, [], ◌∷◌, if◌then◌else◌}
 use Rattle.std.specs.List.{AllByRecursion}
 use Rattle.std.specs.Set.{is_member}
 use Rattle.slang_values.specs.Value.{Records, Value, unit, truth_of}
@@ -11,6 +11,7 @@ use Rattle.program_trees.specs.Programs.{MethodTree, ProgramTree}
 use Rattle.program_trees.specs.Variables.{Variable, variable_types}
 use Rattle.program_trees.specs.Legs.{ItemTree, assume, check, set, fresh, proof}
 use Rattle.run_rules.specs.Runs.{method_at}
+use Rattle.run_rules.specs.Reach.{Reaches}
 use Rattle.leg_rules.specs.LegNames.{LegName, own, of_call, same_name}
 use Rattle.leg_rules.specs.Legs.{Items, legs}
 
@@ -82,3 +83,7 @@ AllPass program method all s = AllByRecursion (λ leg. Passes program.records (l
 abbrev pub LegsPass : ProgramTree Variable → MethodTree Variable → Type 0
 LegsPass program method =
     (names : LegName → Value) → FitNames program.records (leg_types program method) names → AllPass program method (legs program method) (begins names)
+
+-- The legs of each method pass that calls lead to from the one of that number.
+abbrev pub ReachedLegsPass : ProgramTree Variable → ℕ → Type 0
+ReachedLegsPass program from = (number : ℕ) → Reaches program from number → LegsPass program (method_at program number)

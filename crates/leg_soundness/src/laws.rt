@@ -1,6 +1,6 @@
-ghost use Rattle.leg_soundness.specs.Laws.{PassingLegsAreSafe};
+ghost use Rattle.leg_soundness.specs.Laws.{MetDemandsSuffice};
 
-/// No run of a method without calls fails where its legs pass.
-pub fn passing_legs_are_safe()
-    ensures { PassingLegsAreSafe }
+/// An expression does not fail where its demands hold.
+pub fn met_demands_suffice()
+    ensures { MetDemandsSuffice }
 {}

@@ -1,6 +1,7 @@
-//! Where the legs of a method pass, no run of it fails: what it is that a leg passes, as definitions in `specs/`, with the law.
+//! What it is that the legs of a method pass, which methods are in order, and what a leg and a run at the same place know of each
+//! other, as definitions in `specs/`, with the law that an expression does not fail where its demands hold.
 //!
-//! The functions have no code: each one's contract is a law, so that the check of this crate proves it.
+//! The function has no code: its contract is a law, so that the check of this crate proves it.
 #![tactic(auto)]
 
 pub mod laws;

@@ -4,26 +4,24 @@ use Rattle.std.specs.Prelude.{◌&&◌, slice_get, slice_index_or, unwrap_or}
 use Rattle.std.specs.Option.{option_map}
 use Rattle.std.specs.List.{AllByRecursion}
 use Rattle.std.proofs.lemmas.Bool.{false≢true, and_parts}
-use Rattle.std.proofs.lemmas.List.Elements.{recursion_from_All}
 use Rattle.slang_values.specs.Value.{ValueType, unit_type, number_type, truth_type, sequence_type, record_type, AreWellFormed, Value, unit, default, HasType}
 use Rattle.slang_values.specs.Typing.{FitNames}
 use Rattle.slang_values.proofs.Typed.{HasType-default}
 use Rattle.validity.specs.Bind.{EachName}
-use Rattle.program_trees.specs.declared.answer.Kind.TheVariants as kinds
 use Rattle.program_trees.specs.Claims.{ClaimTree}
 use Rattle.program_trees.specs.Programs.{claim_of, MethodTree, GlobalTree, ProgramTree}
 use Rattle.program_trees.specs.Variables.{Variable, local, global, entry, result, variable_types}
 use Rattle.program_trees.specs.Legs.{set}
-use Rattle.run_rules.specs.Values.{Values, claim_value, is_true}
-use Rattle.run_rules.specs.Runs.{method_at, entered, last, ended, fails, initial_value, AreGlobals, Fits, IsSafe}
+use Rattle.run_rules.specs.Values.{Values, claim_value}
+use Rattle.run_rules.specs.Runs.{method_at, entered, initial_value, AreGlobals, Fits}
 use Rattle.leg_rules.specs.LegNames.{LegName, own, of_call, same_name}
 use Rattle.leg_rules.specs.Mentions.{leg_mentions}
 use Rattle.leg_rules.specs.Legs.{Items, at_node, own_claim, own_claims, assumed, entry_items, entries_named, fixed_items, entry_and_requires, with_fixed, ensures_at_end, legs_of_code}
 use Rattle.leg_soundness.specs.Passing.{LegValues, begins, leg_value, IsTrueAt, with_now, Passes, leg_types, AtEnd, AllPass, LegsPass}
-use Rattle.leg_soundness.specs.Scopes.{start_scope, method_keeps, scope_at_end, IsInOrderMethod, AreConstants}
-use Rattle.leg_soundness.proofs.Names.{same_name-true, InScope, own_value, EachName-map}
-use Rattle.leg_soundness.proofs.Items.{passes_append, after_checked, after_assumed}
-use Rattle.leg_soundness.proofs.Safety.{test_safe, Ready, claims_of_run, claims_of_leg, all_code_safe}
+use Rattle.leg_soundness.specs.Scopes.{start_scope, requires_scope, IsInOrderMethod, AreConstants}
+use Rattle.leg_soundness.proofs.Names.{none≢some, some_same, same_name-true, InScope, own_value, EachName-map}
+use Rattle.leg_soundness.proofs.Items.{passes_append, after_assumed}
+use Rattle.leg_soundness.proofs.Ready.{AllTrue, claims_of_leg, claims_same, Ready}
 
 -- ---- setting a variable to what it is
 
@@ -81,12 +79,6 @@ module _ (program : ProgramTree Variable) (method : MethodTree Variable) (names 
 
 -- ---- the values that a method begins with
 
-some_same : {A : Type 0} {x y : A} → Some x ≡ Some y → x ≡ y
-some_same e = cc
-
-none≢some : {A : Type 0} {x : A} → None ≡ Some x → ⊥
-none≢some e = cc
-
 module _ (program : ProgramTree Variable) (formed : AreWellFormed program.records) where
   fit_default : (types : List ValueType) (n : ℕ) (t : ValueType) → slice_get types n ≡ Some t → HasType program.records (default program.records
       (slice_index_or types n unit_type)) t
@@ -125,7 +117,7 @@ module _ (program : ProgramTree Variable) (formed : AreWellFormed program.record
     fit_result (record_type r) t at =
         subst (λ u. HasType program.records (default program.records (record_type r)) u) (some_same at) (HasType-default program.records formed (record_type r))
 
-    fit_entered : (arguments : List Value) (globals : ℕ → Value) → Fits program arguments method.params → AreGlobals program globals
+    pub fit_entered : (arguments : List Value) (globals : ℕ → Value) → Fits program arguments method.params → AreGlobals program globals
         → FitNames program.records (variable_types program method) (entered program.records method arguments globals)
     fit_entered arguments globals fits good (local n) t at =
         fit_arguments method.params order.others arguments fits n t (subst (λ types. slice_get types n ≡ Some t) order.params at) _
@@ -135,7 +127,7 @@ module _ (program : ProgramTree Variable) (formed : AreWellFormed program.record
     fit_entered arguments globals fits good result t at = fit_result method.result t at
 
   -- the leg begins with the values of the run, and what calls name has the defaults of its types
-  abbrev start_names : MethodTree Variable → Values → LegName → Value
+  abbrev pub start_names : MethodTree Variable → Values → LegName → Value
   start_names method values (own x) = values x
   start_names method values (of_call node number x) = default program.records (unwrap_or (variable_types program (method_at program number) x) unit_type)
 
@@ -186,26 +178,29 @@ module _ (program : ProgramTree Variable) (formed : AreWellFormed program.record
         legs_begin method names constant fixed entries hold all h.1,
       )
 
-  pub method_safe : (method : MethodTree Variable) → AreConstants program → IsInOrderMethod program method → LegsPass program method → IsSafe program method
-  method_safe method constant order pass arguments globals n start =
+  -- the leg and the run of a method as they begin
+  pub ready_start : (method : MethodTree Variable) → IsInOrderMethod program method → (arguments : List Value) (globals : ℕ → Value)
+      → Fits program arguments method.params → AreGlobals program globals
+      → Ready program method formed (start_scope program method) (begins (start_names method (entered program.records method arguments globals)))
+      (entered program.records method arguments globals)
+  ready_start method order arguments globals fits good =
+      let fit = fit_entered method order arguments globals fits good in
+      record { agrees = λ x h. refl; leg = fit_start method _ fit; run = fit; initial = λ n d lt fixed. good.fixed n d lt fixed }
+
+  -- where the Requires hold, all that comes behind them passes
+  pub pass_start : (method : MethodTree Variable) → AreConstants program → IsInOrderMethod program method → LegsPass program method
+      → (arguments : List Value) (globals : ℕ → Value) → Fits program arguments method.params → AreGlobals program globals
+      → AllTrue program (entered program.records method arguments globals) method.requires_
+      → AllPass program method (legs_of_code program method.body (ensures_at_end method ∷ []))
+      (begins (start_names method (entered program.records method arguments globals)))
+  pass_start method constant order pass arguments globals fits good meets =
       let values = entered program.records method arguments globals in
       let names = start_names method values in
-      let scope = start_scope program method in
-      let fit = fit_entered method order arguments globals start.arguments_fit start.globals_fit in
-      let fit_leg = fit_start method values fit in
-      let ready : Ready program method formed scope (begins names) values = record { agrees = λ x h. refl; leg = fit_leg; run = fit } in
-      let meets = recursion_from_All (λ noted. is_true program.records values noted.claim ≡ true) method.requires_ start.requires_ in
+      let fit = fit_entered method order arguments globals fits good in
       let fixed = fixed_from names method 0 program.globals (λ m d lt is.
       let same : 0 + m ≡ m = omega arith in
-      ap globals same ∙ start.globals_fit.fixed m d lt is) in
-      let end = ensures_at_end method ∷ [] in
-      let passes = legs_begin method names constant fixed (λ g. refl)
-      (claims_of_leg program method formed scope (begins names) values method.requires_ ready.agrees order.requires_ meets)
-      (legs_of_code program method.body end) (pass names fit_leg) in
-      test_safe program method.requires_ values (λ noted. fails kinds.Requires method.node) _ meets
-      (all_code_safe program method formed n (method_keeps program method) scope method.body (last method) end (begins names) values order.body tt ready passes
-      (λ m le t after r kept q.
-      test_safe program method.ensures_ after (λ noted. fails kinds.Ensures noted.node) (ended after)
-      (claims_of_run program method formed (scope_at_end method.body scope) t after method.ensures_ r.agrees order.ensures_
-      (after_checked program.records (leg_types program method) kinds.Ensures (own_claims method.ensures_) AtEnd t q.0).0)
-      (λ failure. failure)))
+      ap globals same ∙ good.fixed m d lt is) in
+      legs_begin method names constant fixed (λ g. refl)
+      (claims_of_leg program own (begins names) values method.requires_
+      (claims_same program method own (requires_scope program method) (begins names) values method.requires_ (λ x h. refl) order.requires_) meets)
+      (legs_of_code program method.body (ensures_at_end method ∷ [])) (pass names (fit_start method values fit))
