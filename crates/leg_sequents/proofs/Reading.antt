@@ -250,7 +250,7 @@ module _ (records : Records) (variables : List ValueType) (fine : AllByRecursion
         (r.0, r.1, (r.2.0, subst (λ v. new.terms x (pred (v x)) ≡ Some r.2.0) (sym r.0.version) r.2.1))
     name_read (let_symbol label) state g = (reads_nothing state, g, tt)
 
-    names_read : (as' : List (ClaimName ℕ)) (state : State) → Good state
+    pub names_read : (as' : List (ClaimName ℕ)) (state : State) → Good state
         → Reads state (fold (read_name variables) state as') × Good (fold (read_name variables) state as') × AllByRecursion (HasTerm (fold
         (read_name variables) state as')) as'
     names_read [] state g = (reads_nothing state, g, tt)

@@ -38,9 +38,9 @@ still false has l h = h
 
 -- ---- what steps keep
 
-record Keeps (old new : State) : Type 0 where
-  facts : new.facts ≡ old.facts
-  wider : Wider old.sorts new.sorts
+pub record Keeps (old new : State) : Type 0 where
+  pub facts : new.facts ≡ old.facts
+  pub wider : Wider old.sorts new.sorts
 
 keeps_nothing : (state : State) → Keeps state state
 keeps_nothing state = record { facts = refl; wider = λ n t h. h }
@@ -73,12 +73,12 @@ module _ (records : Records) where
     steps_wider old new wider no_steps h = tt
     steps_wider old new wider (step_then step steps) h = (step_wider old new wider step h.0, steps_wider old new wider steps h.1)
 
-  outermost_claims : (types : NameTypes ℕ) (steps : StepTrees) → AreSortedSteps records types steps → AllByRecursion (IsClaim records types) (outermost steps)
+  pub outermost_claims : (types : NameTypes ℕ) (steps : StepTrees) → AreSortedSteps records types steps → AllByRecursion (IsClaim records types) (outermost steps)
   outermost_claims types no_steps h = tt
   outermost_claims types (step_then (line label claim rule cites) steps) h = (h.0, outermost_claims types steps h.1)
   outermost_claims types (step_then (block label symbol assumed given inner) steps) h = outermost_claims types steps h.1
 
-  claims_append : (types : NameTypes ℕ) (ts us : List (Tree ℕ)) → AllByRecursion (IsClaim records types) ts → AllByRecursion (IsClaim records types) us
+  pub claims_append : (types : NameTypes ℕ) (ts us : List (Tree ℕ)) → AllByRecursion (IsClaim records types) ts → AllByRecursion (IsClaim records types) us
       → AllByRecursion (IsClaim records types) (ts ++ us)
   claims_append types [] us h k = k
   claims_append types (t ∷ ts) us h k = (h.0, claims_append types ts us h.1 k)
@@ -92,7 +92,7 @@ module _ (records : Records) where
     abbrev Good : (ℕ → Bool) → State → Type 0
     Good lets state = IsGood records variables lets state
 
-    good_begin : (has : Bool) (label : ℕ) (lets : ℕ → Bool) (state : State) → Good lets state → Good (with_label has label lets) (begin_block has label state)
+    pub good_begin : (has : Bool) (label : ℕ) (lets : ℕ → Bool) (state : State) → Good lets state → Good (with_label has label lets) (begin_block has label state)
     good_begin true label lets state g =
         let new = state.sorts ++ number_type ∷ [] in
         let wider = wider_push state.sorts number_type in
@@ -125,7 +125,7 @@ module _ (records : Records) where
           facts = g.facts;
         }
 
-    claim_read : (lets : ℕ → Bool) (claim : ClaimTree ℕ) (state : State) → Good lets state → IsLegClaim records (step_names variables lets) truth_type claim
+    pub claim_read : (lets : ℕ → Bool) (claim : ClaimTree ℕ) (state : State) → Good lets state → IsLegClaim records (step_names variables lets) truth_type claim
         → IsClaim records (slice_get (read_claim variables claim state).sorts) (read_term variables state claim)
     claim_read lets claim state g h = record {
       typed = typed_term records variables fine lets claim truth_type state g h;
@@ -133,7 +133,7 @@ module _ (records : Records) where
     }
 
     mutual
-      sorted_step : (step : ProofStepTree ℕ) (lets : ℕ → Bool) (state : State) → Good lets state → IsTypedStep records variables lets step
+      pub sorted_step : (step : ProofStepTree ℕ) (lets : ℕ → Bool) (state : State) → Good lets state → IsTypedStep records variables lets step
           → Good lets (after_step variables state step) × Keeps state (after_step variables state step)
           × IsSortedStep records (slice_get (after_step variables state step).sorts) (step_term variables state step)
       sorted_step (claims.line label claim rule cites) lets state g typed = (
@@ -161,7 +161,7 @@ module _ (records : Records) where
             ),
           )
 
-      sorted_steps : (steps : ProofStepTrees ℕ) (lets : ℕ → Bool) (state : State) → Good lets state → AreTypedSteps records variables lets steps
+      pub sorted_steps : (steps : ProofStepTrees ℕ) (lets : ℕ → Bool) (state : State) → Good lets state → AreTypedSteps records variables lets steps
           → Good lets (after_steps variables state steps) × Keeps state (after_steps variables state steps)
           × AreSortedSteps records (slice_get (after_steps variables state steps).sorts) (step_terms variables state steps)
       sorted_steps claims.no_steps lets state g typed = (g, keeps_nothing state, tt)
@@ -174,7 +174,7 @@ module _ (records : Records) where
 
     -- ---- items
 
-    in_proof : (type : ValueType) (claim : ClaimTree ℕ) → IsLegClaim records (item_names variables) type claim → IsLegClaim records
+    pub in_proof : (type : ValueType) (claim : ClaimTree ℕ) → IsLegClaim records (item_names variables) type claim → IsLegClaim records
         (step_names variables no_labels) type claim
     in_proof type claim h = record {
       typed = IsTyped-more records (item_names variables)
@@ -193,7 +193,7 @@ module _ (records : Records) where
     small_sorted false item kind rest h = (tt, tt)
 
     module _ (formed : AreWellFormed records) where
-      well_sorted : (state : State) (goal : Tree ℕ) → Good no_labels state → IsClaim records (slice_get state.sorts) goal → IsWellSorted
+      pub well_sorted : (state : State) (goal : Tree ℕ) → Good no_labels state → IsClaim records (slice_get state.sorts) goal → IsWellSorted
           (sequent records state goal)
       well_sorted state goal g h = record {
         records = formed;
@@ -249,7 +249,7 @@ module _ (records : Records) where
                 (record { known = s.0.known; closed = s.0.closed; typed = s.0.typed; symbols = s.0.symbols; facts = more }) typed.1,
           )
 
-good_start : (records : Records) (variables : List ValueType) → IsGood records variables no_labels start
+pub good_start : (records : Records) (variables : List ValueType) → IsGood records variables no_labels start
 good_start records variables = record {
   known = tt;
   closed = λ x k u h. absurd (none≢some h);

@@ -1,0 +1,2 @@
+pub mod NumberedPassing
+pub mod Laws
