@@ -1,0 +1,6 @@
+pub mod Numbered
+pub mod Claims
+pub mod Values
+pub mod Code
+pub mod TypedProjects
+pub mod Examples
