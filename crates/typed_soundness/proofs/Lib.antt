@@ -1,0 +1,4 @@
+pub mod Typed
+pub mod Related
+pub mod Codes
+pub mod Methods

@@ -1,0 +1,6 @@
+ghost use Rattle.typed_soundness.specs.Laws.{TypedProgramsAreSafe};
+
+/// No run of a method of a well-typed program fails where the legs of all methods that it reaches pass.
+pub fn typed_programs_are_safe()
+    ensures { TypedProgramsAreSafe }
+{}
