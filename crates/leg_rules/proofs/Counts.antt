@@ -15,7 +15,7 @@ count-both on_true on_false a b m n h k =
 
 module _ (program : ProgramTree Variable) where
   mutual
-    count-of : (statement : CodeTree Variable) (following : List Items) (n : ℕ) → length following ≡ n
+    pub count-of : (statement : CodeTree Variable) (following : List Items) (n : ℕ) → length following ≡ n
         → length (legs_of program statement following) ≡ leg_count_of statement n
     count-of (set node target value) following n h = count-in_front (set_items node target value) following n h
     count-of (give node value) following n h = count-in_front (set_items node result value) following n h
@@ -34,7 +34,7 @@ module _ (program : ProgramTree Variable) where
     count-of (call node target name_node number arguments) following n h =
         count-in_front (call_items program node target name_node number arguments) following n h
 
-    count-of_code : (code : CodeTrees Variable) (following : List Items) (n : ℕ) → length following ≡ n
+    pub count-of_code : (code : CodeTrees Variable) (following : List Items) (n : ℕ) → length following ≡ n
         → length (legs_of_code program code following) ≡ leg_count_of_code code n
     count-of_code no_code following n h = h
     count-of_code (code_then statement code) following n h = count-of statement (legs_of_code program code following) (leg_count_of_code code n)

@@ -1,8 +1,9 @@
 -- A typed program as plain data.
-use Rattle.std.specs.Prelude.{ℕ, List, [], ◌∷◌, map}
+use Rattle.std.specs.Prelude.{ℕ, List, [], ◌∷◌, map, length}
 use Rattle.slang_values.specs.Value.{ValueType, Records}
 use Rattle.program_trees.specs.Claims.{NotedTree}
 use Rattle.program_trees.specs.Programs.{CodeTree, set, give, assert, deduce, branch, loop, call, CodeTrees, no_code, code_then, MethodTree, GlobalTree, ProgramTree}
+use Rattle.program_trees.specs.Variables.{with_kinds}
 use Rattle.lk_claims.specs.Claim.{value_type, claim_tree}
 use Rattle.lk_claims.specs.Step.{step_trees}
 use Rattle.lk_programs.specs.Expr.{typed_expr}
@@ -14,7 +15,9 @@ use Rattle.lk_programs.specs.declared.program.Code.{Code}
 use Rattle.lk_programs.specs.declared.program.Code.TheOpen as c
 use Rattle.lk_programs.specs.declared.program.Code.TheFolds.{fold-Code}
 use Rattle.lk_programs.specs.declared.program.Method.{Method}
-use Rattle.lk_programs.specs.declared.program.Typed.{Typed}
+use Rattle.lk_programs.specs.declared.program.NodePlace.{NodePlace}
+use Rattle.typed_programs.specs.WellTyped.{IsTypedProgram}
+use Rattle.typed_programs.specs.OneProof.{IsTypedProgram-prop}
 
 abbrev pub noted_tree : Noted → NotedTree ℕ
 noted_tree noted = record { claim = claim_tree noted.claim; node = noted.node.0 }
@@ -63,9 +66,16 @@ method_tree method = record {
   body = code_trees method.body;
 }
 
-abbrev pub program_tree : Typed → ProgramTree ℕ
-program_tree typed = record {
-  records = record_types typed.records;
-  globals = map global_tree typed.globals;
-  methods = map method_tree typed.methods;
+abbrev pub program_over : List RecordTy → List Global → List Method → ProgramTree ℕ
+program_over records globals methods = record {
+  records = record_types records;
+  globals = map global_tree globals;
+  methods = map method_tree methods;
 }
+
+-- The program is well typed, where the text has these nodes in these files.
+abbrev pub IsTypedOver : ProgramTree ℕ → List NodePlace → List (List ℕ) → Type 0
+IsTypedOver program nodes files = IsTypedProgram (with_kinds program) (map (λ node. node.file) nodes) (length files)
+
+pub IsTypedOver-prop : (program : ProgramTree ℕ) (nodes : List NodePlace) (files : List (List ℕ)) → IsProp (IsTypedOver program nodes files)
+IsTypedOver-prop program nodes files = IsTypedProgram-prop (with_kinds program) (map (λ node. node.file) nodes) (length files)

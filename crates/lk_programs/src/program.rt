@@ -102,13 +102,3 @@ pub struct Method {
     pub locals: Items<Ty>,
     pub body: Items<Code>,
 }
-
-/// A program: its files, records and globals, its methods in the order of their names, and the place of each node.
-#[derive(Drop)]
-pub struct Typed {
-    pub files: Items<Text>,
-    pub records: Items<RecordTy>,
-    pub globals: Items<Global>,
-    pub methods: Items<Method>,
-    pub nodes: Items<NodePlace>,
-}

@@ -1,4 +1,5 @@
 pub mod Parts
 pub mod Scopes
 pub mod WellTyped
+pub mod OneProof
 pub mod Examples

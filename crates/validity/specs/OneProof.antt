@@ -24,15 +24,15 @@ IsFieldType-prop records k truth_type t = λ x y. absurd x
 IsFieldType-prop records k (sequence_type s) t = λ x y. absurd x
 IsFieldType-prop records k (record_type n) t = ×_prop le_prop (type_set _ _)
 
-three : {A B C : Type 0} → IsProp A → IsProp B → IsProp C → IsProp (A × B × C)
+pub three : {A B C : Type 0} → IsProp A → IsProp B → IsProp C → IsProp (A × B × C)
 three p q r x y i = (p x.0 y.0 i, q x.1 y.1 i, r x.2 y.2 i)
 
-four : {A B C D : Type 0} → IsProp A → IsProp B → IsProp C → IsProp D → IsProp (A × B × C × D)
+pub four : {A B C D : Type 0} → IsProp A → IsProp B → IsProp C → IsProp D → IsProp (A × B × C × D)
 four p q r s x y i = (p x.0 y.0 i, q x.1 y.1 i, r x.2 y.2 i, s x.3 y.3 i)
 
 module _ {A : Type 0} (records : Records) (types : NameTypes A) where
   mutual
-    IsTyped-prop : (a : Tree A) (t : ValueType) → IsProp (IsTyped records types a t)
+    pub IsTyped-prop : (a : Tree A) (t : ValueType) → IsProp (IsTyped records types a t)
     IsTyped-prop (literal z) t = type_set _ _
     IsTyped-prop (truth_literal b) t = type_set _ _
     IsTyped-prop (name a) t = hlevel (props, type_set)
@@ -70,7 +70,7 @@ module _ {A : Type 0} (records : Records) (types : NameTypes A) where
     AreTyped-prop (tree_then t ts) (s ∷ ss) = ×_prop (IsTyped-prop t s) (AreTyped-prop ts ss)
 
 mutual
-  IsClosed-prop : {A : Type 0} (n : ℕ) (t : Tree A) → IsProp (IsClosed n t)
+  pub IsClosed-prop : {A : Type 0} (n : ℕ) (t : Tree A) → IsProp (IsClosed n t)
   IsClosed-prop n (literal z) = Unit-prop
   IsClosed-prop n (truth_literal b) = Unit-prop
   IsClosed-prop n (name a) = Unit-prop
@@ -85,7 +85,7 @@ mutual
   AreClosed-prop n no_trees = Unit-prop
   AreClosed-prop n (tree_then a ts) = ×_prop (IsClosed-prop n a) (AreClosed-prop n ts)
 
-AreWellFormed-prop : (records : Records) → IsProp (AreWellFormed records)
+pub AreWellFormed-prop : (records : Records) → IsProp (AreWellFormed records)
 AreWellFormed-prop records f g i = record {
   known = λ n h. Bool-set _ _ (f.known n h) (g.known n h) i;
   finite = λ n h. Bool-set _ _ (f.finite n h) (g.finite n h) i;
