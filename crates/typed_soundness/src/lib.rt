@@ -1,6 +1,7 @@
-//! In a well-typed program no run of a method fails where the legs of all methods that it reaches pass, as a law.
+//! In a well-typed program no run of a method fails where the legs of all methods that it reaches pass, as a law that is tried on
+//! small programs.
 //!
-//! The function has no code: its contract is the law, so that the check of this crate proves it.
+//! The functions have no code: each one's contract is a law, so that the check of this crate proves it.
 #![tactic(auto)]
 
 pub mod laws;
