@@ -2,7 +2,7 @@
 use Rattle.std.specs.Prelude.{IfOk}
 use Rattle.std.specs.declared.alloc.AllocError.{AllocError}
 use Rattle.type_check.specs.Fault.{form_left_out}
-use Rattle.lk_ast.specs.declared.tree.Fault.{Fault}
+use Rattle.slang_tree.specs.declared.place.Fault.{Fault}
 use Rattle.std.proofs.Common.{◌≡◌, ℕ, ◌<◌, List, [], ◌∷◌, map, Result, Ok, Err, subst, get_or, sym, ap, ◌∙◌, inl, inr}
 use Rattle.lk_ast.specs.declared.tree.File.{File}
 use Rattle.lk_ast.specs.ProgramTree.{ProgramTree, program_tree}

@@ -6,8 +6,8 @@ use Rattle.lk_ast.specs.declared.check.Kind.{Kind}
 use Rattle.lk_ast.specs.declared.check.Kind.TheVariants as kinds
 use Rattle.lk_ast.specs.declared.check.Reason.{Reason}
 use Rattle.lk_ast.specs.declared.check.Reason.TheVariants as reasons
-use Rattle.lk_ast.specs.declared.tree.Fault.{Fault}
-use Rattle.lk_ast.specs.declared.tree.Place.{Place}
+use Rattle.slang_tree.specs.declared.place.Fault.{Fault}
+use Rattle.slang_tree.specs.declared.place.Place.{Place}
 use Rattle.lk_ast.specs.declared.typed.NodeNo.{NodeNo}
 use Rattle.lk_ast.specs.declared.typed.NodePlace.{NodePlace}
 use Rattle.method_check.specs.Verdicts.{is_verified}

@@ -3,8 +3,8 @@ use Rattle.std.proofs.Common.{◌≡◌, ℕ, ℤ, Bool, ap, sym, ◌∙◌}
 use Rattle.slang_values.specs.Tree.{Tree, literal, truth_literal, name as named, unary, binary}
 use Rattle.slang_values.specs.declared.operators.Unary.{Unary}
 use Rattle.slang_values.specs.declared.operators.Binary.{Binary}
-use Rattle.lk_ast.specs.declared.tree.Place.{Place}
-use Rattle.lk_ast.specs.declared.tree.Name.{Name}
+use Rattle.slang_tree.specs.declared.place.Place.{Place}
+use Rattle.slang_tree.specs.declared.expression.Name.{Name}
 use Rattle.lk_ast.specs.declared.tree.Operator.{Operator}
 use Rattle.lk_ast.specs.declared.tree.Expr.{Expr, fold-roll-Expr}
 use Rattle.lk_ast.specs.declared.tree.Expr.TheOpen as e

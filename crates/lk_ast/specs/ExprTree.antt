@@ -1,6 +1,6 @@
 -- An expression as plain data: its shape, with the place of each part.
 use Rattle.std.specs.Prelude.{ℕ, ℤ, List}
-use Rattle.lk_ast.specs.declared.tree.Place.{Place}
+use Rattle.slang_tree.specs.declared.place.Place.{Place}
 use Rattle.lk_ast.specs.declared.tree.Operator.{Operator}
 use Rattle.lk_ast.specs.declared.tree.Expr.{Expr, fold-Expr}
 use Rattle.lk_ast.specs.declared.tree.Expr.TheOpen as e

@@ -7,14 +7,11 @@
 mod check;
 mod claim;
 mod operator;
-mod text;
 mod tree;
 pub mod typed;
 
 pub use check::{Answer, Item, Kind, Leg, Legs, Reason};
 pub use claim::Claim;
-pub use text::Text;
-pub use tree::{
-    Decl, Expr, Fault, File, MethodDecl, Name, Operator, Param, Place, Return, Stmt, TypeName,
-};
+pub use slang_tree::{Fault, Name, Place, Text};
+pub use tree::{Decl, Expr, File, MethodDecl, Operator, Param, Return, Stmt, TypeName};
 pub use typed::{Code, FieldTy, Method, NodeNo, NodePlace, Noted, Ty, Typed};

@@ -1,26 +1,5 @@
-use crate::text::Text;
+use slang_tree::{Name, Place};
 use sqlite_items::{Boxed, Items};
-
-/// A line and a column of a text, both from 1. Columns count characters.
-#[derive(Clone, Copy, Debug, PartialEq, Eq)]
-pub struct Place {
-    pub line: u32,
-    pub col: u32,
-}
-
-/// What is wrong with a text: a code, and the place that it is said of.
-#[derive(Clone, Copy, Debug, PartialEq, Eq)]
-pub struct Fault {
-    pub code: u8,
-    pub place: Place,
-}
-
-/// A name as it stands in the text.
-#[derive(Debug, Drop)]
-pub struct Name {
-    pub text: Text,
-    pub place: Place,
-}
 
 /// A whole text: its declarations in order.
 #[derive(Drop)]

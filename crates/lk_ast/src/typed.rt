@@ -3,8 +3,8 @@ ghost use Rattle.lk_ast.specs.ClaimTree.{claim_tree};
 ghost use Rattle.lk_ast.specs.TypedExpr.{typed_expr, claim_of};
 
 use crate::claim::Claim;
-use crate::text::Text;
-use crate::tree::{Operator, Place};
+use crate::tree::Operator;
+use slang_tree::{Place, Text};
 use slang_values::Unary;
 use sqlite_items::{Boxed, Items};
 use std::alloc::{AllocError, Global};

@@ -2,9 +2,9 @@
 use Rattle.std.proofs.Common.{◌≡◌, ℕ, ◌≤◌, ◌⊎◌, inl, inr, Bool, true, false, List, [], ◌∷◌, ◌++◌, Option, Some, None, refl, sym, ap, ◌∙◌, subst, append_assoc, cond}
 use Rattle.std.specs.Prelude.{option_and_then, nat_le}
 use Rattle.std.proofs.lemmas.Bool.{leb-true}
-use Rattle.lk_ast.specs.declared.tree.Place.{Place}
+use Rattle.slang_tree.specs.declared.place.Place.{Place}
 use Rattle.lk_ast.specs.declared.tree.File.{File}
-use Rattle.lk_ast.specs.declared.tree.Name.{Name}
+use Rattle.slang_tree.specs.declared.expression.Name.{Name}
 use Rattle.lk_ast.specs.declared.tree.Decl.TheVariants.{Method}
 use Rattle.lk_ast.specs.declared.tree.TypeName.{TypeName}
 use Rattle.slang_lexer.specs.declared.token.TokenKind.TheVariants as kind

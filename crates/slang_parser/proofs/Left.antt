@@ -2,9 +2,9 @@
 use Rattle.std.proofs.Common.{◌≡◌, ℕ, suc, ◌<◌, ◌≤◌, ◌⊎◌, List, [], ◌∷◌, ◌++◌, length, map, Option, Some}
 use Rattle.std.specs.List.{AllByRecursion}
 use Rattle.std.specs.Option.{option_map}
-use Rattle.lk_ast.specs.declared.tree.Place.{Place}
+use Rattle.slang_tree.specs.declared.place.Place.{Place}
 use Rattle.lk_ast.specs.declared.tree.File.{File}
-use Rattle.lk_ast.specs.declared.tree.Name.{Name}
+use Rattle.slang_tree.specs.declared.expression.Name.{Name}
 use Rattle.lk_ast.specs.declared.tree.Param.{Param}
 use Rattle.lk_ast.specs.declared.tree.Decl.{Decl}
 use Rattle.lk_ast.specs.declared.tree.Decl.TheVariants.{Method}

@@ -3,7 +3,7 @@ use denote.Enum.Bare.{same_true}
 use Rattle.slang_lexer.specs.contracts.token.TokenKind.{the_type}
 use Rattle.std.proofs.Common.{◌≡◌, ◌&&◌, ℕ, ◌⊎◌, inl, inr, Bool, true, false, List, [], ◌∷◌, Option, Some, None, refl, ap, ◌∙◌, cond}
 use Rattle.std.specs.Prelude.{option_and_then, IsTrue}
-use Rattle.lk_ast.specs.declared.tree.Place.{Place}
+use Rattle.slang_tree.specs.declared.place.Place.{Place}
 use Rattle.lk_ast.specs.declared.tree.File.{File}
 use Rattle.slang_lexer.specs.declared.token.TokenKind.{TokenKind}
 use Rattle.slang_lexer.specs.declared.token.TokenKind.TheVariants as kind

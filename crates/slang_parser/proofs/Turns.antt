@@ -2,7 +2,7 @@
 use Rattle.std.proofs.Common.{◌≡◌, ℕ, suc, Bool, true, false, cond, List, [], ◌∷◌, ◌++◌, Option, Some, None, refl, ap, ◌∙◌}
 use Rattle.std.specs.Prelude.{option_and_then}
 use Rattle.lk_ast.specs.declared.tree.File.{File}
-use Rattle.lk_ast.specs.declared.tree.Name.{Name}
+use Rattle.slang_tree.specs.declared.expression.Name.{Name}
 use Rattle.lk_ast.specs.declared.tree.Param.{Param}
 use Rattle.lk_ast.specs.declared.tree.Decl.{Decl}
 use Rattle.lk_ast.specs.declared.tree.Decl.TheVariants.{Method}

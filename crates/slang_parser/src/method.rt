@@ -5,7 +5,7 @@ ghost use Rattle.slang_parser.specs.Machine.{State, top, naming, params_due, par
 ghost use Rattle.slang_parser.specs.Gives.{IfRefused, Moves, Refuses, Expects};
 ghost use Rattle.slang_parser.specs.Lists.{begins_member};
 ghost use Rattle.lk_ast.specs.declared.tree.Decl.{Decl as Done};
-ghost use Rattle.lk_ast.specs.declared.tree.Name.{Name as DoneName};
+ghost use Rattle.slang_tree.specs.declared.expression.Name.{Name as DoneName};
 ghost use Rattle.lk_ast.specs.declared.tree.Param.{Param as DoneParam};
 ghost use Rattle.slang_lexer.specs.declared.token.TokenKind.TheVariants as kind;
 

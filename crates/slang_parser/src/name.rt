@@ -5,9 +5,9 @@ ghost use Rattle.slang_parser.specs.Machine.{Draft, State, naming, params_due, p
 ghost use Rattle.slang_parser.specs.Gives.{IfRefused, Moves, Refuses, ExpectsType};
 ghost use Rattle.slang_parser.specs.Lists.{begins_member};
 ghost use Rattle.lk_ast.specs.declared.tree.Decl.{Decl as Done};
-ghost use Rattle.lk_ast.specs.declared.tree.Name.{Name as DoneName};
+ghost use Rattle.slang_tree.specs.declared.expression.Name.{Name as DoneName};
 ghost use Rattle.lk_ast.specs.declared.tree.Param.{Param as DoneParam};
-ghost use Rattle.lk_ast.specs.declared.tree.Place.{Place as DonePlace};
+ghost use Rattle.slang_tree.specs.declared.place.Place.{Place as DonePlace};
 ghost use Rattle.lk_ast.specs.declared.tree.TypeName.{TypeName as DoneType};
 
 use crate::cursor::{first, is, is_name, name_of};

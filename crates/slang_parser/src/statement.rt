@@ -2,8 +2,8 @@ ghost use Rattle.std.specs.Prelude.{◌≡◌, ◌<◌, ◌≤◌, length, IfOk,
 ghost use Rattle.slang_parser.specs.Grammar.{with_stmt, with_return};
 ghost use Rattle.slang_parser.specs.Machine.{Draft, alone, want, val_name, val_type_or_equals, val_equals, assert_due, return_of, part_end, with_draft_stmt, with_draft_return};
 ghost use Rattle.slang_parser.specs.Gives.{IfRefused, Moves, Refuses};
-ghost use Rattle.lk_ast.specs.declared.tree.Name.{Name as DoneName};
-ghost use Rattle.lk_ast.specs.declared.tree.Place.{Place as DonePlace};
+ghost use Rattle.slang_tree.specs.declared.expression.Name.{Name as DoneName};
+ghost use Rattle.slang_tree.specs.declared.place.Place.{Place as DonePlace};
 
 use crate::cursor::{expect, first, is};
 use crate::expr::expression;

@@ -1,7 +1,7 @@
 ghost use Rattle.std.specs.Prelude.{◌≡◌, ℕ, List, IfOk, IfErr, MatchResult, Some, None, Ok, Err, true, false, IsTrue, [], ◌≤◌, ◌<◌, length};
 ghost use Rattle.lk_ast.specs.declared.tree.File.{File as Tree};
 ghost use Rattle.lk_ast.specs.declared.tree.Decl.{Decl as Done};
-ghost use Rattle.lk_ast.specs.declared.tree.Fault.{Fault as TheFault};
+ghost use Rattle.slang_tree.specs.declared.place.Fault.{Fault as TheFault};
 ghost use Rattle.slang_tokens.specs.Tok.{toks};
 ghost use Rattle.slang_parser.specs.Grammar.{Reads, ReadsOneTree};
 ghost use Rattle.slang_parser.specs.Machine.{top, ended, run};

@@ -1,7 +1,7 @@
 -- Only names and numbers keep their text.
 use Rattle.std.proofs.Common.{◌≡◌, ◌||◌, ℕ, Bool, true, false, cond, List, [], ◌∷◌, ◌++◌, Option, Some, None, map, refl, subst}
 use Rattle.std.specs.List.{AllByRecursion}
-use Rattle.lk_ast.specs.declared.tree.Place.{Place}
+use Rattle.slang_tree.specs.declared.place.Place.{Place}
 use Rattle.slang_lexer.specs.declared.token.Token.{Token}
 use Rattle.slang_lexer.specs.declared.token.TokenKind.TheVariants as kind
 use Rattle.slang_tokens.specs.declared.read.TokensEnd.{TokensEnd}

@@ -1,7 +1,7 @@
 -- Lines and columns, both from 1. Columns count characters.
 use Rattle.std.specs.Prelude.{ℕ, ◌+◌, Bool, not, ◌&&◌, ◌==◌, nat_lt, nat_le, List, count_by, take}
 use Rattle.std.specs.List.{after_last}
-use Rattle.lk_ast.specs.declared.tree.Place.{Place}
+use Rattle.slang_tree.specs.declared.place.Place.{Place}
 
 abbrev pub is_newline : ℕ → Bool
 is_newline byte = byte == 10

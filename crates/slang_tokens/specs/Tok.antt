@@ -1,7 +1,7 @@
 -- A token with its place, as the grammar sees it.
 use Rattle.std.specs.Prelude.{ℕ, Bool, List, [], map}
 use denote.Enum.Bare.{sameb}
-use Rattle.lk_ast.specs.declared.tree.Place.{Place}
+use Rattle.slang_tree.specs.declared.place.Place.{Place}
 use Rattle.slang_lexer.specs.contracts.token.TokenKind.{the_type}
 use Rattle.slang_lexer.specs.declared.token.TokenKind.{TokenKind}
 use Rattle.slang_tokens.specs.declared.lexeme.Lexeme.{Lexeme}

@@ -6,7 +6,7 @@ use Rattle.slang_lexer.specs.declared.token.Token.{Token}
 use Rattle.slang_lexer.specs.declared.token.LexFault.{LexFault}
 use Rattle.slang_lexer.specs.declared.token.TokenKind.{TokenKind}
 use Rattle.slang_lexer.specs.declared.token.TokenKind.TheVariants as kind
-use Rattle.lk_ast.specs.declared.tree.Place.{Place}
+use Rattle.slang_tree.specs.declared.place.Place.{Place}
 use Rattle.slang_lexer.specs.Next.{IsNext, IsLexFault}
 use Rattle.slang_tokens.specs.declared.read.TokensEnd.{TokensEnd}
 use Rattle.slang_tokens.specs.declared.read.TokensEnd.TheVariants.{End, Fault}

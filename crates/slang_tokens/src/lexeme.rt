@@ -1,5 +1,5 @@
-use lk_ast::Place;
 use slang_lexer::TokenKind;
+use slang_tree::Place;
 
 /// A token and the place that it begins at. The text is that of a name or a number, and empty for any other token.
 #[derive(Clone, Copy, Debug)]

@@ -6,8 +6,8 @@ ghost use Rattle.slang_tokens.specs.Front.{front};
 
 use crate::kinds::{closes, heads_test, is_line_end, opens};
 use crate::lexeme::Lexeme;
-use lk_ast::Place;
 use slang_lexer::TokenKind;
+use slang_tree::Place;
 use std::alloc::{AllocError, Global};
 
 /// The inside of an open bracket.

@@ -1,7 +1,7 @@
 ghost use Rattle.std.specs.Prelude.{◌≡◌, ◌+◌, ◌<◌, ◌^◌, ◌++◌, ◌∷◌, [], List, ℕ, IfOk, IsOk};
 ghost use Rattle.slang_tokens.specs.Places.{place_behind};
 
-use lk_ast::Place;
+use slang_tree::Place;
 use std::alloc::AllocError;
 
 /// The place behind more bytes. A line or a column past the greatest number is want of memory.

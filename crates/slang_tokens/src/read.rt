@@ -6,8 +6,8 @@ use crate::lexeme::Lexeme;
 use crate::lines::Front;
 use crate::places::moved;
 use crate::weight::light_len;
-use lk_ast::{Fault, Place};
 use slang_lexer::{TokenKind, next_token};
+use slang_tree::{Fault, Place};
 use std::alloc::{AllocError, Global};
 
 /// The tokens of a text, up to the first that no text holds.

@@ -3,7 +3,7 @@ use Rattle.std.proofs.Common.{◌≡◌, ℕ, ◌+◌, List, [], ◌∷◌, ◌+
 use Rattle.std.specs.Prelude.{Some, None}
 use Rattle.slang_values.specs.Tree.{unary as unary_tree}
 use Rattle.slang_values.specs.declared.operators.Unary.{Unary}
-use Rattle.lk_ast.specs.declared.tree.Place.{Place}
+use Rattle.slang_tree.specs.declared.place.Place.{Place}
 use Rattle.lk_ast.specs.declared.tree.Operator.{Operator}
 use Rattle.lk_ast.specs.declared.typed.NodeNo.{NodeNo}
 use Rattle.lk_ast.specs.declared.typed.NodePlace.{NodePlace}

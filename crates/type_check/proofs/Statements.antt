@@ -5,7 +5,7 @@ use Rattle.std.specs.List.{IsDistinct}
 use Rattle.std.specs.Str.{bytes_eq}
 use Rattle.std.proofs.lemmas.List.{map-append}
 use Rattle.lk_ast.specs.declared.tree.Expr.{Expr}
-use Rattle.lk_ast.specs.declared.tree.Name.{Name}
+use Rattle.slang_tree.specs.declared.expression.Name.{Name}
 use Rattle.lk_ast.specs.declared.tree.Stmt.{Stmt}
 use Rattle.lk_ast.specs.declared.tree.Stmt.TheVariants as statements
 use Rattle.lk_ast.specs.declared.typed.Ty.{Ty}

@@ -3,7 +3,7 @@ use Rattle.std.specs.Prelude.{◌≡◌, ℕ, ◌+◌, List, [], ◌∷◌, ◌+
 use Rattle.std.specs.Option.{option_map}
 use Rattle.slang_values.specs.Tree.{Tree, literal, truth_literal, name as variable_name, unary as unary_tree}
 use Rattle.slang_values.specs.declared.operators.Unary.{Unary}
-use Rattle.lk_ast.specs.declared.tree.Place.{Place}
+use Rattle.slang_tree.specs.declared.place.Place.{Place}
 use Rattle.lk_ast.specs.declared.typed.Ty.{Ty}
 use Rattle.lk_ast.specs.declared.typed.Ty.TheVariants as types
 use Rattle.lk_ast.specs.declared.typed.NodePlace.{NodePlace}

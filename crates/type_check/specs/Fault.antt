@@ -1,6 +1,6 @@
 -- The fault of a text that breaks a rule.
 use Rattle.std.specs.Prelude.{◌≡◌}
-use Rattle.lk_ast.specs.declared.tree.Fault.{Fault}
+use Rattle.slang_tree.specs.declared.place.Fault.{Fault}
 use Rattle.type_check.specs.declared.refusal.Refusal.{Refusal}
 use Rattle.type_check.specs.declared.refusal.Refusal.TheVariants as refusal
 use Rattle.type_check.specs.declared.program.CheckEnd.{CheckEnd}

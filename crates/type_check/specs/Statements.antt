@@ -1,7 +1,7 @@
 -- The rules for claims, statements and returns, and what they give.
 use Rattle.std.specs.Prelude.{◌≡◌, ℕ, ◌+◌, List, [], ◌∷◌, ◌++◌, map, length, Option, Some, None, unwrap_or}
 use Rattle.std.specs.List.{enumerate_from}
-use Rattle.lk_ast.specs.declared.tree.Name.{Name}
+use Rattle.slang_tree.specs.declared.expression.Name.{Name}
 use Rattle.lk_ast.specs.declared.tree.Expr.{Expr}
 use Rattle.lk_ast.specs.declared.tree.Stmt.{Stmt}
 use Rattle.lk_ast.specs.declared.tree.Stmt.TheVariants as statements

@@ -1,7 +1,7 @@
 ghost use Rattle.std.specs.Prelude.{◌≡◌, ◌∷◌, ◌++◌, ◌+◌, [], false, length, map, IfOk, IfErr, OnOk, IsOkUnless};
 ghost use Rattle.std.specs.List.{All, IsDistinct, list_any};
 ghost use Rattle.std.specs.Str.{bytes_eq};
-ghost use Rattle.lk_ast.specs.declared.tree.Fault.{Fault};
+ghost use Rattle.slang_tree.specs.declared.place.Fault.{Fault};
 ghost use Rattle.lk_ast.specs.ExprTree.{expr_tree};
 ghost use Rattle.lk_ast.specs.ProgramTree.{code_tree, noted_tree, program_tree};
 ghost use Rattle.lk_ast.specs.WellTyped.{IsVariableType, IsWellTypedProgram};

@@ -1,7 +1,7 @@
 use Rattle.std.proofs.Common.{List, ◌∙◌, refl}
 use Rattle.std.proofs.lemmas.Result.{IfOk-weaker, IfErr-weaker}
 use Rattle.lk_ast.specs.declared.tree.Decl.{Decl}
-use Rattle.lk_ast.specs.declared.tree.Name.{Name}
+use Rattle.slang_tree.specs.declared.expression.Name.{Name}
 use Rattle.lk_ast.specs.declared.tree.Param.{Param}
 use Rattle.lk_ast.specs.declared.tree.TypeName.{TypeName}
 use Rattle.slang_lexer.specs.declared.token.TokenKind.TheVariants as kind

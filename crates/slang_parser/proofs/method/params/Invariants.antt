@@ -1,7 +1,7 @@
 use Rattle.std.proofs.Common.{◌≡◌, ◌≤◌, [], List, Some, length}
 use Rattle.std.specs.Prelude.{IsTrue}
 use Rattle.lk_ast.specs.declared.tree.Decl.{Decl}
-use Rattle.lk_ast.specs.declared.tree.Name.{Name}
+use Rattle.slang_tree.specs.declared.expression.Name.{Name}
 use Rattle.slang_lexer.specs.declared.token.TokenKind.TheVariants as kind
 use Rattle.slang_tokens.specs.Tok.{toks}
 use Rattle.slang_parser.specs.Machine.{param_or_end, result_colon, run}

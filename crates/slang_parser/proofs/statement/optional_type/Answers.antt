@@ -1,6 +1,6 @@
 use Rattle.std.proofs.Common.{Some, ◌∙◌, sym, refl}
-use Rattle.lk_ast.specs.declared.tree.Name.{Name}
-use Rattle.lk_ast.specs.declared.tree.Place.{Place}
+use Rattle.slang_tree.specs.declared.expression.Name.{Name}
+use Rattle.slang_tree.specs.declared.place.Place.{Place}
 use Rattle.slang_tokens.specs.Tok.{tok, toks}
 use Rattle.slang_parser.specs.Machine.{Draft, val_type, val_equals}
 use Rattle.slang_parser.specs.Gives.{ExpectsType}
