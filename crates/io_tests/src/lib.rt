@@ -1,6 +1,8 @@
-//! Tests of the sources, the sinks and the shell of the commands, over objects in memory.
+//! Tests of the sources, the sinks, the folders and the shell of the commands, over objects in memory.
 #![tactic(auto)]
 
+#[cfg(test)]
+mod folders;
 #[cfg(test)]
 mod objects;
 #[cfg(test)]

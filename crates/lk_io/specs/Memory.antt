@@ -1,10 +1,15 @@
--- The sources and sinks in memory, as contracts see them.
-use Rattle.std.specs.Prelude.{◌≡◌, ℕ, List, ◌++◌, take, drop, length, min, Result, Ok, Err, Some}
+-- The sources, sinks and folders in memory, as contracts see them.
+use Rattle.std.specs.Prelude.{◌≡◌, ℕ, Bool, false, List, ◌++◌, map, take, drop, length, min, string_bytes, Result, Ok, Err, Some}
 use Rattle.lk_io.specs.Run.{one_more}
 use Rattle.lk_io.specs.Source.{SourceState}
 use Rattle.lk_io.specs.Sink.{SinkState}
+use Rattle.lk_io.specs.Folder.{Files, FolderState, has_missed}
 use Rattle.lk_io.specs.declared.sinks.SinkEnd.{SinkEnd}
 use Rattle.lk_io.specs.declared.sinks.SinkEnd.TheVariants.{Failed, NoMemory}
+use Rattle.lk_io.specs.declared.folders.NamedBytes.{NamedBytes}
+use Rattle.lk_io.specs.declared.folders.Found.{Found}
+use Rattle.lk_io.specs.declared.folders.FolderEnd.{FolderEnd}
+use Rattle.lk_io.specs.declared.folders.FolderEnd.TheVariants.{Failed as ReadFailed}
 
 pub record SourceInMemory : Type 0 where
   pub left : List ℕ
@@ -68,3 +73,25 @@ abbrev pub GivesSurely : SureSinkInMemory → List ℕ → Result ℕ SinkEnd �
 GivesSurely before piece (Ok n) now = (n ≡ length piece) × (now ≡ record before { given = before.given ++ piece })
 GivesSurely before piece (Err Failed) now = ⊥
 GivesSurely before piece (Err NoMemory) now = now ≡ record before { refusals = one_more before.refusals }
+
+-- files as pairs
+abbrev pub named : List NamedBytes → Files
+named files = map (λ file. (string_bytes file.name, file.bytes.items)) files
+
+pub record FolderInMemory : Type 0 where
+  pub files : Files
+  -- the reads that fail, counted from 1
+  pub fail_at : List ℕ
+  pub calls : ℕ
+  pub faults : ℕ
+  -- whether the last read found no file
+  pub missed : Bool
+
+-- All files are told.
+abbrev pub folder_state : FolderInMemory → FolderState
+folder_state s = record { files = Some s.files; faults = s.faults; missed = s.missed }
+
+-- A read that fails is counted; another tells of a file or of none.
+abbrev pub ReadsMemory : FolderInMemory → Result Found FolderEnd → FolderInMemory → Type 0
+ReadsMemory before (Err ReadFailed) now = now ≡ record before { calls = one_more before.calls; faults = one_more before.faults; missed = false }
+ReadsMemory before result now = now ≡ record before { calls = one_more before.calls; missed = has_missed result }

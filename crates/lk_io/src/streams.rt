@@ -117,7 +117,7 @@ impl<W: Write + Drop> Sink for StdSink<W> {
 }
 
 /// A call that a signal broke off is made again.
-fn is_interrupted(e: &Error) -> bool
+pub(crate) fn is_interrupted(e: &Error) -> bool
     ensures { IsTrue result ↔ (error_kind e.now ≡ ErrorKind.Interrupted) }
 {
     e.kind() == ErrorKind::Interrupted
