@@ -3,8 +3,8 @@ use Rattle.std.proofs.Common.{◌≡◌, ℕ, List, [], Result, Ok, Err, Some, N
 use Rattle.std.specs.Prelude.{IfOk, IfErr, MatchResult}
 use Rattle.std.specs.Str.{IsUtf8}
 use Rattle.lk_ast.specs.declared.tree.File.{File}
-use Rattle.lk_ast.specs.declared.tree.Place.{Place}
-use Rattle.lk_ast.specs.declared.tree.Fault.{Fault as TheFault}
+use Rattle.slang_tree.specs.declared.place.Place.{Place}
+use Rattle.slang_tree.specs.declared.place.Fault.{Fault as TheFault}
 use Rattle.slang_tokens.specs.Tok.{Tok}
 use Rattle.slang_tokens.specs.declared.read.TokensEnd.{TokensEnd}
 use Rattle.slang_tokens.specs.declared.read.TokensEnd.TheVariants.{End, Fault}
