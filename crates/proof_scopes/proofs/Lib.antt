@@ -1,0 +1,3 @@
+pub mod SymbolSets
+pub mod Scopes
+pub mod Labels
