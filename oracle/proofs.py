@@ -43,28 +43,30 @@ class Checker:
     def __init__(self, closer: Closer, base: Sequent) -> None:
         self.closer, self.base = closer, base
         self.make = closer.terms.make
+        self.ended: set[Term] = set()           # the symbols of all blocks that have ended, also of those inside other blocks
+        self.earlier: list[Term] = []           # all claims and assumptions so far, visible or not
 
-    def steps(self, steps: list[TermStep], visible: dict[int, Term | TermStep], ended: set[Term], earlier: list[Term]) -> None:
+    def steps(self, steps: list[TermStep], visible: dict[int, Term | TermStep]) -> None:
         """`visible` has the claims and blocks that may be cited, in the order of the text."""
-        inner_ended: set[Term] = set()
         for step in steps:
             if step.rule:
-                self.line(step, visible, ended | inner_ended)
+                self.line(step, visible)
                 visible[step.label] = step.claim
-                earlier.append(step.claim)
+                self.earlier.append(step.claim)
                 continue
             if step.symbol is not None:
-                if any(step.symbol in symbols_in(it, set()) for it in [*self.base.facts, *earlier]):
+                if any(step.symbol in symbols_in(it, set()) for it in [*self.base.facts, *self.earlier]):
                     raise Refused(step.label, "symbol")
-            if symbols_in(step.claim, set()) & ((ended | inner_ended) - {step.symbol}):
+                self.ended.discard(step.symbol)
+            if symbols_in(step.claim, set()) & self.ended:
                 raise Refused(step.assumed, "symbol")
-            earlier.append(step.claim)
-            self.steps(step.steps, {**visible, step.assumed: step.claim}, (ended | inner_ended) - {step.symbol}, earlier)
+            self.earlier.append(step.claim)
+            self.steps(step.steps, {**visible, step.assumed: step.claim})
             visible[step.label] = step
             if step.symbol is not None:
-                inner_ended.add(step.symbol)
+                self.ended.add(step.symbol)
 
-    def line(self, step: TermStep, visible: dict[int, Term | TermStep], ended: set[Term]) -> None:
+    def line(self, step: TermStep, visible: dict[int, Term | TermStep]) -> None:
         for label in step.cites:
             if label not in visible:
                 raise Refused(step.label, f"cite {label}")
@@ -72,7 +74,7 @@ class Checker:
         fits = self.fits(step.rule, step.claim, cited)
         if not fits:
             raise Refused(step.label, "shape")
-        if symbols_in(step.claim, set()) & ended:
+        if symbols_in(step.claim, set()) & self.ended:
             raise Refused(step.label, "symbol")
         if step.rule in ("Algebra", "Auto"):
             facts = cited if step.rule == "Algebra" else [*self.base.facts, *(it for it in visible.values() if isinstance(it, Term))]
@@ -192,7 +194,7 @@ class Checker:
 def refused_step(closer: Closer, base: Sequent, steps: list[TermStep]) -> tuple[int, str] | None:
     """The first step that is refused, by its label, and the reason."""
     try:
-        Checker(closer, base).steps(steps, {}, set(), [])
+        Checker(closer, base).steps(steps, {})
     except Refused as refused:
         return refused.args
     return None
