@@ -1,0 +1,10 @@
+pub mod Operators
+pub mod Parts
+pub mod Expressions
+pub mod Proofs
+pub mod Statements
+pub mod Declarations
+pub mod Texts
+pub mod Faults
+pub mod Laws
+pub mod Examples
