@@ -1,0 +1,5 @@
+pub mod Wide
+pub mod ExpressionStops
+pub mod ClaimStops
+pub mod Laws
+pub mod Examples
