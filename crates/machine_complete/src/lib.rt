@@ -1,0 +1,6 @@
+//! What the grammar of Slang accounts for, the machine reads with the same tree.
+//!
+//! The functions have no code: each one's contract is a law, so that the check of this crate proves it.
+#![tactic(auto)]
+
+pub mod laws;

@@ -1,0 +1,4 @@
+pub mod Decls
+pub mod Members
+pub mod Next
+pub mod Sound
