@@ -1,11 +1,12 @@
 -- A well-typed leg over numbers passes where its obligations are met.
-use Rattle.std.proofs.Common.{◌≡◌, ℕ, zero, suc, pred, ◌+◌, ◌<◌, ◌≤◌, Bool, true, false, cond, ◌||◌, List, [], ◌∷◌, ◌++◌, map, length, Some, None, refl, sym, ap, ◌∙◌, subst, arith}
+use Rattle.std.proofs.Common.{◌≡◌, ℕ, suc, pred, ◌+◌, ◌<◌, ◌≤◌, Bool, true, false, cond, ◌||◌, List, [], ◌∷◌, map, length, Some, None, refl, sym, ap, ◌∙◌, subst, arith}
 use Rattle.std.specs.Prelude.{nat_eq, slice_get}
 use Rattle.std.specs.List.{AllByRecursion, fold}
 use Rattle.std.specs.Set.{is_member}
 use Rattle.std.proofs.lemmas.Bool.{false≢true}
 use Rattle.std.proofs.lemmas.Bool.Decides.{Decides-eqb}
 use Rattle.std.proofs.lemmas.List.Elements.{All-from_recursion}
+use Rattle.numbering_laws.proofs.Places.{all_append, there_is}
 use Rattle.slang_values.specs.Value.{ValueType, truth_type, Records, is_known, AreWellFormed, Value, unit, truth_of, HasType}
 use Rattle.slang_values.specs.Tree.{Tree, value}
 use Rattle.slang_values.specs.Typing.{FitNames}
@@ -26,16 +27,6 @@ use Rattle.answer_laws.specs.Met.{IsMet}
 use Rattle.answer_laws.proofs.Symbols.{Fits, of_versions, later_with, symbol_fits}
 use Rattle.answer_laws.proofs.Reading.{at_zero, claim_fits, claim_means}
 use Rattle.answer_laws.proofs.Steps.{proof_fits}
-
-true_append : (P : Tree ℕ → Type 0) (ts us : List (Tree ℕ)) → AllByRecursion P ts → AllByRecursion P us → AllByRecursion P (ts ++ us)
-true_append P [] us h k = k
-true_append P (t ∷ ts) us h k = (h.0, true_append P ts us h.1 k)
-
--- what stands at a place of the list
-there_is : (sorts : List ValueType) (x : ℕ) → x < length sorts → (t : ValueType) × (slice_get sorts x ≡ Some t)
-there_is [] x l = absurd (omega (arith, l))
-there_is (t ∷ sorts) zero l = (t, refl)
-there_is (t ∷ sorts) (suc x) l = there_is sorts x (omega (arith, l))
 
 -- no obligation is too large
 rest_met : (small : Bool) (place : ℕ) (kind : Kind) (rest : List Obligation) → AllByRecursion IsMet (where_small small place kind rest)
@@ -127,7 +118,7 @@ module _ (records : Records) (variables : List ValueType) (fine : AllByRecursion
       terms = fits.terms;
       later = fits.later;
       unchanged = fits.unchanged;
-      facts = true_append (IsTrueUnder records values) state.facts (term ∷ []) fits.facts (h, tt);
+      facts = all_append (IsTrueUnder records values) state.facts (term ∷ []) fits.facts (h, tt);
     }
 
     facts_fit : (terms : List (Tree ℕ)) → AllByRecursion (IsTrueUnder records values) terms → FitsAt s (with_facts terms state) values
@@ -138,7 +129,7 @@ module _ (records : Records) (variables : List ValueType) (fine : AllByRecursion
       terms = fits.terms;
       later = fits.later;
       unchanged = fits.unchanged;
-      facts = true_append (IsTrueUnder records values) state.facts terms fits.facts h;
+      facts = all_append (IsTrueUnder records values) state.facts terms fits.facts h;
     }
 
     -- The fresh variables have new versions, whose symbols are still to be taken.

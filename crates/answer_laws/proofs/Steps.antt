@@ -5,7 +5,7 @@ use Rattle.std.specs.List.{AllByRecursion}
 use Rattle.slang_values.specs.Value.{ValueType, number_type, truth_type, Records, is_known, Value, number, truth_of}
 use Rattle.validity.specs.Validity.{IsTrueUnder}
 use Rattle.program_trees.specs.Claims as claims
-use Rattle.program_trees.specs.Claims.{ClaimTree, ProofStepTree, ProofStepTrees, renamed_steps}
+use Rattle.program_trees.specs.Claims.{ProofStepTree, ProofStepTrees, renamed_steps}
 use Rattle.leg_rules.specs.Store.{State, read_claim}
 use Rattle.leg_rules.specs.Sequents.{begin_block, after_step, after_steps, read_term, step_terms, outermost}
 use Rattle.leg_rules.specs.Typed.{with_label, IsTypedStep, AreTypedSteps, no_labels}

@@ -4,6 +4,7 @@ use Rattle.std.specs.Prelude.{nat_eq, slice_get, slice_index_or, ◌&&◌}
 use Rattle.std.specs.List.{AllByRecursion}
 use Rattle.std.proofs.lemmas.Bool.{and_parts, false_from_ne_true}
 use Rattle.std.proofs.lemmas.Bool.Decides.{Decides-eqb}
+use Rattle.numbering_laws.proofs.Places.{got_below}
 use Rattle.slang_values.specs.Value.{ValueType, unit_type, Records, Value, truth_of, HasType}
 use Rattle.slang_values.specs.Tree.{Tree, name, value}
 use Rattle.slang_values.specs.Typing.{IsTyped, FitNames}
@@ -24,14 +25,9 @@ Extends sorts values new = (n : ℕ) (t : ValueType) → slice_get sorts n ≡ S
 abbrev pub with_value : ℕ → Value → (ℕ → Value) → ℕ → Value
 with_value k v values n = cond (nat_eq n k) v (values n)
 
-below_length : (sorts : List ValueType) (n : ℕ) (t : ValueType) → slice_get sorts n ≡ Some t → n < length sorts
-below_length [] n t h = absurd (none≢some h)
-below_length (s ∷ sorts) zero t h = omega arith
-below_length (s ∷ sorts) (suc n) t h = let l = below_length sorts n t h in omega (arith, l)
-
 not_at_length : (sorts : List ValueType) (n : ℕ) (t : ValueType) → slice_get sorts n ≡ Some t → nat_eq n (length sorts) ≡ false
 not_at_length sorts n t h =
-    let l = below_length sorts n t h in
+    let l = got_below sorts n t h in
     false_from_ne_true (nat_eq n (length sorts)) (λ e. let same = (Decides-eqb n (length sorts)).0 e in omega (arith, l, same))
 
 pub extends_with : (sorts : List ValueType) (v : Value) (values : ℕ → Value) → Extends sorts values (with_value (length sorts) v values)

@@ -1,7 +1,8 @@
 -- What appears in well-typed claims and items.
-use Rattle.std.proofs.Common.{◌≡◌, ℕ, Bool, List, [], ◌∷◌, ◌++◌, map, length, Some, None}
+use Rattle.std.proofs.Common.{◌≡◌, ℕ, Bool, List, [], ◌∷◌, ◌++◌, map, length, Some}
 use Rattle.std.specs.List.{AllByRecursion}
 use Rattle.std.proofs.lemmas.Bool.{lt-ltb}
+use Rattle.numbering_laws.proofs.Places.{none≢some, all_append}
 use Rattle.slang_values.specs.Value.{ValueType, number_type, truth_type, sequence_type, fields, element_type}
 use Rattle.slang_values.specs.Tree.{literal, truth_literal, name, bound, unary, binary, update, quantified, listed, Trees, no_trees, tree_then, sequence_of, record_of}
 use Rattle.slang_values.specs.Typing.{NameTypes, type_of, IsTyped, EachIsTyped, AreTyped}
@@ -19,13 +20,6 @@ use Rattle.leg_soundness.specs.Passing.{leg_types}
 use Rattle.numbering_laws.specs.NumberedPassing.{IsKnownAppearance}
 use Rattle.leg_typing.specs.OverNames.{variable_names, proof_names, IsStepOver, AreStepsOver, IsItemOver}
 use Rattle.leg_typing.specs.Laws.{HasKnownTypes}
-
-none≢some : {A : Type 0} {x : A} → None ≡ Some x → ⊥
-none≢some e = cc
-
-all_append : {A : Type 0} (P : A → Type 0) (xs ys : List A) → AllByRecursion P xs → AllByRecursion P ys → AllByRecursion P (xs ++ ys)
-all_append P [] ys h k = k
-all_append P (x ∷ xs) ys h k = (h.0, all_append P xs ys h.1 k)
 
 module _ (program : ProgramTree Variable) (method : MethodTree Variable) (known : HasKnownTypes program method) where
   abbrev Known : Appearance → Type 0

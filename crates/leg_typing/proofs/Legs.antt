@@ -14,7 +14,7 @@ use Rattle.leg_rules.specs.Legs.{Items}
 use Rattle.leg_rules.specs.Numbering.{Appearance, of_variable, name_appears, claim_appears, step_appears, steps_appear, item_appears, leg_appears, leg_name_type, appearing_variables, variable_order, record_order, number_in, renumbered_type, renumbered_step, renumbered_steps, renumbered_item}
 use Rattle.leg_rules.specs.Typed.{item_names, step_names, IsLegClaim, with_label, IsTypedStep, AreTypedSteps, no_labels, IsTypedItem}
 use Rattle.leg_soundness.specs.Passing.{leg_types}
-use Rattle.numbering_laws.proofs.Places.{none≢some, In, got_below, all_left, all_right, all_mapped, number_at, all_in_firsts}
+use Rattle.numbering_laws.proofs.Places.{none≢some, In, got_below, all_left, all_right, all_mapped, number_at, all_in_firsts, some_inj}
 use Rattle.numbering_laws.proofs.SameNames.{same_name-true, same_name-self}
 use Rattle.numbering_laws.proofs.Values.{TypeIn, AreRenumbered}
 use Rattle.numbering_laws.proofs.RecordOrder.{is_record_order}
@@ -22,13 +22,10 @@ use Rattle.numbering_laws.proofs.RecordNumbers.{got_map, are_renumbered, new_kno
 use Rattle.numbering_laws.proofs.Claims.{AppearsIn}
 use Rattle.numbering_laws.proofs.Passing.{known_type, IsTypedVariable, typed_variables, all_numbered}
 use Rattle.answer_laws.specs.Laws.{IsTypedLegOf}
-use Rattle.leg_typing.specs.OverNames.{variable_names, proof_names, IsClaimOver, IsStepOver, AreStepsOver, IsItemOver}
+use Rattle.leg_typing.specs.OverNames.{variable_names, proof_names, IsTypedClaim, IsStepOver, AreStepsOver, IsItemOver}
 use Rattle.leg_typing.specs.Laws.{HasKnownTypes}
 use Rattle.leg_typing.proofs.Appearances.{leg_known}
 use Rattle.leg_typing.proofs.Claims.{number_claim, closed_new, typed_new}
-
-some_inj : {A : Type 0} {x y : A} → Some x ≡ Some y → x ≡ y
-some_inj e = cc
 
 -- what holds of what stands in a list holds of all
 all_from_at : {A B : Type 0} (Q : B → Type 0) (h : A → B) (xs : List A) → ((i : ℕ) (x : A) → slice_get xs i ≡ Some x → Q (h x)) → AllByRecursion Q (map h xs)
@@ -75,14 +72,14 @@ module _ (records new_records : Records) (S : ℕ → Type 0) (f back : ℕ → 
     in_proofs lets (old_variable x) t h p = variable_stands x t h p.0
     in_proofs lets (let_symbol label) t h p = let_stands (lets label) t h
 
-    item_claim : (c : ClaimTree LegName) (t : ValueType) → IsClaimOver records (variable_names types) t c → AllByRecursion Appears (claim_appears c)
+    item_claim : (c : ClaimTree LegName) (t : ValueType) → IsTypedClaim records (variable_names types) t c → AllByRecursion Appears (claim_appears c)
         → IsLegClaim new_records (item_names variable_types) (renumbered_type f t) (number_claim f number c)
     item_claim c t h p = record {
       typed = (typed_new records new_records S f back are variables known (variable_names types) (item_names variable_types) outside c t h.typed p).1;
       closed = closed_new f number c 0 h.closed;
     }
 
-    step_claim : (lets : ℕ → Bool) (c : ClaimTree LegName) → IsClaimOver records (proof_names types lets) truth_type c
+    step_claim : (lets : ℕ → Bool) (c : ClaimTree LegName) → IsTypedClaim records (proof_names types lets) truth_type c
         → AllByRecursion Appears (claim_appears c) → IsLegClaim new_records (step_names variable_types lets) truth_type (number_claim f number c)
     step_claim lets c h p = record {
       typed = (typed_new records new_records S f back are variables known (proof_names types lets) (step_names variable_types lets) (in_proofs lets) c

@@ -20,16 +20,16 @@ proof_names types lets (old_variable x) = types x
 proof_names types lets (let_symbol label) = if lets label then Some number_type else None
 
 -- The claim is of this type, and no bound variable of it is loose.
-pub record IsClaimOver {A : Type 0} (records : Records) (names : NameTypes (ClaimName A)) (type : ValueType) (claim : ClaimTree A) : Type 0 where
+pub record IsTypedClaim {A : Type 0} (records : Records) (names : NameTypes (ClaimName A)) (type : ValueType) (claim : ClaimTree A) : Type 0 where
   pub typed : IsTyped records names claim type
   pub closed : IsClosed 0 claim
 
 module _ {A : Type 0} (records : Records) (types : NameTypes A) where
   abbrev mutual
     pub IsStepOver : (ℕ → Bool) → ProofStepTree A → Type 0
-    IsStepOver lets (line label claim rule cites) = IsClaimOver records (proof_names types lets) truth_type claim
+    IsStepOver lets (line label claim rule cites) = IsTypedClaim records (proof_names types lets) truth_type claim
     IsStepOver lets (block label has_symbol assumed given steps) =
-        IsClaimOver records (proof_names types (with_label has_symbol label lets)) truth_type given × AreStepsOver (with_label has_symbol label lets) steps
+        IsTypedClaim records (proof_names types (with_label has_symbol label lets)) truth_type given × AreStepsOver (with_label has_symbol label lets) steps
 
     pub AreStepsOver : (ℕ → Bool) → ProofStepTrees A → Type 0
     AreStepsOver lets no_steps = Unit {0}
@@ -37,8 +37,8 @@ module _ {A : Type 0} (records : Records) (types : NameTypes A) where
 
   -- Claims are truth values, a variable is set to a claim of its type, and what is made fresh has a type.
   abbrev pub IsItemOver : ItemTree A → Type 0
-  IsItemOver (assume claim) = IsClaimOver records (variable_names types) truth_type claim
-  IsItemOver (check kind claim) = IsClaimOver records (variable_names types) truth_type claim
-  IsItemOver (set x claim) = (t : ValueType) × (types x ≡ Some t) × IsClaimOver records (variable_names types) t claim
+  IsItemOver (assume claim) = IsTypedClaim records (variable_names types) truth_type claim
+  IsItemOver (check kind claim) = IsTypedClaim records (variable_names types) truth_type claim
+  IsItemOver (set x claim) = (t : ValueType) × (types x ≡ Some t) × IsTypedClaim records (variable_names types) t claim
   IsItemOver (fresh xs) = AllByRecursion (λ x. (t : ValueType) × (types x ≡ Some t)) xs
   IsItemOver (proof steps) = AreStepsOver no_labels steps

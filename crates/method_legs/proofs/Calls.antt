@@ -4,6 +4,7 @@ use Rattle.std.specs.Prelude.{slice_get, ◌&&◌}
 use Rattle.std.specs.Option.{option_map, option_map_or}
 use Rattle.std.specs.List.{AllByRecursion, flat_map, range_with_len}
 use Rattle.std.proofs.lemmas.Bool.{false≢true}
+use Rattle.numbering_laws.proofs.Places.{none≢some, all_append, there_is}
 use Rattle.slang_values.specs.Value.{ValueType, unit_type, number_type, truth_type, sequence_type, record_type}
 use Rattle.slang_values.specs.Typing.{NameTypes}
 use Rattle.program_trees.specs.Claims.{ClaimName, variable, old_variable, let_symbol, variable_claim, NotedTree, renamed_name}
@@ -18,7 +19,7 @@ use Rattle.leg_rules.specs.Legs.{Items, at_node, own_claim, demanded, parameter_
 use Rattle.typed_programs.specs.Scopes.{is_var, claim_names, IsNotedIn, AreValuesIn}
 use Rattle.typed_programs.specs.WellTyped.{is_program_type, nothing_named, is_named_before, is_named_behind, scope_before, scope_behind, IsTypedMethod, IsTypedGlobal}
 use Rattle.leg_typing.specs.OverNames.{variable_names}
-use Rattle.method_legs.proofs.Lists.{none≢some, all_append, all_map, all_tested, there_is, taken, in_range}
+use Rattle.method_legs.proofs.Lists.{all_map, all_tested, taken, in_range}
 use Rattle.method_legs.proofs.Expressions.{expr_closed}
 use Rattle.method_legs.proofs.Claims.{seen, types, AreItems, IsOver, items_append, Carries, carried, assumed_items, noted_truths, value_over, arguments_are}
 

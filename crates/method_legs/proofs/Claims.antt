@@ -2,6 +2,7 @@
 use Rattle.std.proofs.Common.{◌≡◌, ℕ, zero, suc, Bool, true, false, cond, List, [], ◌∷◌, ◌++◌, map, Option, Some, None, refl}
 use Rattle.std.specs.List.{AllByRecursion}
 use Rattle.std.proofs.lemmas.Bool.{false≢true}
+use Rattle.numbering_laws.proofs.Places.{none≢some, all_append}
 use Rattle.slang_values.specs.Value.{ValueType, truth_type}
 use Rattle.slang_values.specs.Tree.{name}
 use Rattle.slang_values.specs.Typing.{NameTypes, IsTyped, IsClosed}
@@ -17,9 +18,8 @@ use Rattle.leg_rules.specs.Checks.{Demand, demands, argument_demands}
 use Rattle.leg_rules.specs.Legs.{Items, at_node, own_claim, assumed, checked, demanded, set_items, test_items, on_true_items, on_false_items}
 use Rattle.leg_rules.specs.Typed.{with_label}
 use Rattle.leg_soundness.specs.Passing.{leg_types}
-use Rattle.typed_programs.specs.Scopes.{Scope, type_in, is_var, claim_names, proof_names as scope_proof_names, IsClaimOver as IsScopeClaim, IsNotedIn, AreValuesIn, IsStepIn, AreStepsIn}
-use Rattle.leg_typing.specs.OverNames.{variable_names, proof_names, IsClaimOver, IsStepOver, AreStepsOver, IsItemOver}
-use Rattle.method_legs.proofs.Lists.{none≢some, all_append}
+use Rattle.typed_programs.specs.Scopes.{Scope, type_in, is_var, claim_names, proof_names as scope_proof_names, IsClaimOver, IsNotedIn, AreValuesIn, IsStepIn, AreStepsIn}
+use Rattle.leg_typing.specs.OverNames.{variable_names, proof_names, IsTypedClaim, IsStepOver, AreStepsOver, IsItemOver}
 use Rattle.method_legs.proofs.Expressions.{expr_closed, IsDemand, demands_typed}
 
 -- a type that is only seen under a condition
@@ -36,7 +36,7 @@ module _ (program : ProgramTree Variable) (method : MethodTree Variable) where
   AreItems items = AllByRecursion (λ noted. IsItemOver program.records types noted.item) items
 
   abbrev pub IsOver : ValueType → ClaimTree LegName → Type 0
-  IsOver t c = IsClaimOver program.records (variable_names types) t c
+  IsOver t c = IsTypedClaim program.records (variable_names types) t c
 
   pub items_append : (items more : Items) → AreItems items → AreItems more → AreItems (items ++ more)
   items_append items more h k = all_append (λ noted. IsItemOver program.records types noted.item) items more h k
@@ -134,8 +134,8 @@ module _ (program : ProgramTree Variable) (method : MethodTree Variable) where
         seen (named x) (variable_types program method x) t (seen (is_var (scope_of named nodes) x) (type_in (scope_of named nodes) x) t h)
     steps_names lets (let_symbol label) t h = h
 
-    step_claim : (lets : ℕ → Bool) (c : ClaimTree Variable) → IsScopeClaim (scope_of named nodes) (scope_proof_names (scope_of named nodes) lets) c
-        → IsClaimOver program.records (proof_names types lets) truth_type (own_claim c)
+    step_claim : (lets : ℕ → Bool) (c : ClaimTree Variable) → IsClaimOver (scope_of named nodes) (scope_proof_names (scope_of named nodes) lets) c
+        → IsTypedClaim program.records (proof_names types lets) truth_type (own_claim c)
     step_claim lets c h = record {
       typed = IsTyped-bind program.records (scope_proof_names (scope_of named nodes) lets) (proof_names types lets) (λ a. name (renamed_name own a))
           (steps_names lets) c truth_type h.typed;

@@ -1,6 +1,7 @@
 -- The parts of well-typed expressions, and what they demand.
 use Rattle.std.proofs.Common.{ℕ, Bool, true, false, cond, List, [], ◌∷◌, refl, sym, subst}
 use Rattle.std.specs.List.{AllByRecursion}
+use Rattle.numbering_laws.proofs.Places.{all_append}
 use Rattle.slang_values.specs.Value.{ValueType, number_type, truth_type, sequence_type, Records, fields, element_type}
 use Rattle.slang_values.specs.Tree.{Tree, unary as unary_tree, binary as binary_tree, sequence_of, record_of}
 use Rattle.slang_values.specs.Typing.{NameTypes, type_of, IsTyped, EachIsTyped, AreTyped, IsClosed, AreClosed}
@@ -16,7 +17,6 @@ use Rattle.program_trees.specs.Programs as e
 use Rattle.program_trees.specs.Programs.{TypedExpr, TypedExprs, claim_of, claims_of}
 use Rattle.program_trees.specs.Variables.{Variable}
 use Rattle.leg_rules.specs.Checks.{Demand, in_range, is_not_zero, guarded, demands, part_demands}
-use Rattle.method_legs.proofs.Lists.{all_append}
 
 -- ---- no bound variable stands in an expression
 

@@ -19,9 +19,9 @@ use Rattle.typed_programs.specs.Scopes.{is_var, claim_names, IsNotedIn}
 use Rattle.typed_programs.specs.WellTyped.{Around, behind, End, goes_on, returns, ended, end_behind, IsTypedCode, AreTypedCodes, is_named_before, is_named_behind, body_end, is_program_type, IsTypedMethod, IsTypedGlobal, IsTypedProgram}
 use Rattle.answer_laws.specs.Laws.{HasTypedLegs, IsTypedLegOf}
 use Rattle.leg_typing.proofs.Legs.{typed_leg}
-use Rattle.numbering_laws.proofs.Places.{all_mapped}
+use Rattle.numbering_laws.proofs.Places.{all_mapped, all_append, there_is}
 use Rattle.numbering_laws.proofs.SameNames.{same_name-true}
-use Rattle.method_legs.proofs.Lists.{all_append, all_map, all_tested, all_got_or, there_is, taken}
+use Rattle.method_legs.proofs.Lists.{all_map, all_tested, all_got_or, taken}
 use Rattle.method_legs.proofs.Claims.{AreItems, items_append, own_names, scope_of, assumed_items, checked_items, noted_truths, test_are, set_are, on_true_are, on_false_are, steps_over}
 use Rattle.method_legs.proofs.Methods.{HasTypes, variable_type, known_types}
 use Rattle.method_legs.proofs.Calls.{HasType, own_entries_are, fixed_are, call_are, target_is}

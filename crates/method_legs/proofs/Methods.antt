@@ -4,6 +4,7 @@ use Rattle.std.specs.Prelude.{slice_get}
 use Rattle.std.specs.Option.{option_map}
 use Rattle.std.specs.List.{AllByRecursion, list_all}
 use Rattle.std.proofs.lemmas.Bool.{and_parts}
+use Rattle.numbering_laws.proofs.Places.{none≢some, some_inj, all_at}
 use Rattle.slang_values.specs.Value.{ValueType, unit_type, number_type, truth_type, sequence_type, record_type}
 use Rattle.program_trees.specs.Programs.{MethodTree, GlobalTree, ProgramTree}
 use Rattle.program_trees.specs.Variables.{Variable, local, global, entry, result, variable_types}
@@ -11,7 +12,7 @@ use Rattle.run_rules.specs.Runs.{no_method, method_at}
 use Rattle.leg_rules.specs.LegNames.{own, of_call}
 use Rattle.typed_programs.specs.WellTyped.{is_program_type, is_result_type, IsTypedMethod, IsTypedGlobal}
 use Rattle.leg_typing.specs.Laws.{HasKnownTypes}
-use Rattle.method_legs.proofs.Lists.{none≢some, some_inj, all_tested, all_got, all_or_past}
+use Rattle.method_legs.proofs.Lists.{all_tested, all_or_past}
 
 -- the type of a global that is there
 pub global_type : (globals : List (GlobalTree Variable)) (n : ℕ) (t : ValueType) → option_map (λ g. g.type) (slice_get globals n) ≡ Some t
@@ -43,12 +44,12 @@ module _ (program : ProgramTree Variable) (nodes : ℕ) (globals : AllByRecursio
   global_of : (n : ℕ) (t : ValueType) → option_map (λ g. g.type) (slice_get program.globals n) ≡ Some t → IsProgramType t
   global_of n t h =
       let g = global_type program.globals n t h in
-      subst IsProgramType g.2 (all_got (IsTypedGlobal program nodes) program.globals n g.0 globals g.1).type
+      subst IsProgramType g.2 (all_at (IsTypedGlobal program nodes) program.globals globals n g.0 g.1).type
 
   pub variable_type : (method : MethodTree Variable) → HasTypes method → (x : Variable) (t : ValueType) → variable_types program method x ≡ Some t
       → IsProgramType t
   variable_type method has (local n) t h =
-      all_got IsProgramType method.locals n t (all_tested (is_program_type program.records) IsProgramType (λ s e. e) method.locals has.locals) h
+      all_at IsProgramType method.locals (all_tested (is_program_type program.records) IsProgramType (λ s e. e) method.locals has.locals) n t h
   variable_type method has (global n) t h = global_of n t h
   variable_type method has (entry n) t h = global_of n t h
   variable_type method has result t h = result_of method method.result t h has.result_type

@@ -32,6 +32,11 @@ got_below [] i x h = absurd (none≢some h)
 got_below (y ∷ xs) zero x h = omega arith
 got_below (y ∷ xs) (suc i) x h = let l = got_below xs i x h in omega (arith, l)
 
+pub there_is : {A : Type 0} (xs : List A) (i : ℕ) → i < length xs → (x : A) × (slice_get xs i ≡ Some x)
+there_is [] i l = absurd (omega (arith, l))
+there_is (x ∷ xs) zero l = (x, refl)
+there_is (x ∷ xs) (suc i) l = there_is xs i (omega (arith, l))
+
 pub grows_push : {A : Type 0} (xs : List A) (y : A) → Grows xs (xs ++ y ∷ [])
 grows_push [] y i x h = absurd (none≢some h)
 grows_push (z ∷ xs) y zero x h = h
@@ -59,6 +64,10 @@ module _ {A : Type 0} (P : A → Type 0) where
   pub all_right : (xs ys : List A) → AllByRecursion P (xs ++ ys) → AllByRecursion P ys
   all_right [] ys h = h
   all_right (x ∷ xs) ys h = all_right xs ys h.1
+
+  pub all_append : (xs ys : List A) → AllByRecursion P xs → AllByRecursion P ys → AllByRecursion P (xs ++ ys)
+  all_append [] ys h k = k
+  all_append (x ∷ xs) ys h k = (h.0, all_append xs ys h.1 k)
 
   pub all_at : (xs : List A) → AllByRecursion P xs → (i : ℕ) (x : A) → slice_get xs i ≡ Some x → P x
   all_at [] h i x e = absurd (none≢some e)

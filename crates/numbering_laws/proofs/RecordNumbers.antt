@@ -4,14 +4,13 @@ use Rattle.std.specs.Prelude.{nat_eq, slice_get, slice_index_or}
 use Rattle.std.specs.Option.{option_map_or}
 use Rattle.std.specs.List.{AllByRecursion, fold, list_all, sum_by}
 use Rattle.std.proofs.lemmas.Bool.{false≢true, and_parts, and_from, lt-ltb}
-use Rattle.std.proofs.lemmas.Bool.Decides.{Decides-eqb}
 use Rattle.std.proofs.lemmas.List.{length-map}
 use Rattle.slang_values.specs.Value.{ValueType, unit_type, number_type, truth_type, sequence_type, record_type, Records, fields, named_record, is_known, ends_within, parts_of_field, parts_within, AreWellFormed, record_value, value_then, values_of, default_within, default}
 use Rattle.slang_values.proofs.Typed.{HasType-default}
 use Rattle.leg_rules.specs.Numbering.{number_in, renumbered_type}
-use Rattle.numbering_laws.proofs.Places.{none≢some, some_inj, In, got_below, all_mapped, number_at}
+use Rattle.numbering_laws.proofs.Places.{none≢some, some_inj, In, got_below, all_mapped, number_at, there_is}
 use Rattle.numbering_laws.proofs.Values.{TypeIn, renumbered_value, renumbered_values, AreRenumbered, typed-in}
-use Rattle.numbering_laws.proofs.RecordOrder.{TypeIn-map, Before, Behind}
+use Rattle.numbering_laws.proofs.RecordOrder.{TypeIn-map, Before, Behind, numbers-true, numbers-self}
 
 pub got_map : {A B : Type 0} (h : A → B) (xs : List A) (i : ℕ) (x : A) → slice_get xs i ≡ Some x → slice_get (map h xs) i ≡ Some (h x)
 got_map h [] i x e = absurd (none≢some e)
@@ -27,18 +26,6 @@ pub got_index : {A : Type 0} (xs : List A) (i : ℕ) (x d : A) → slice_get xs 
 got_index [] i x d e = absurd (none≢some e)
 got_index (y ∷ xs) zero x d e = some_inj e
 got_index (y ∷ xs) (suc i) x d e = got_index xs i x d e
-
--- what stands at a place of the list
-there_is : {A : Type 0} (xs : List A) (i : ℕ) → i < length xs → (x : A) × (slice_get xs i ≡ Some x)
-there_is [] i l = absurd (omega (arith, l))
-there_is (x ∷ xs) zero l = (x, refl)
-there_is (x ∷ xs) (suc i) l = there_is xs i (omega (arith, l))
-
-numbers-true : (x y : ℕ) → nat_eq x y ≡ true → x ≡ y
-numbers-true x y = (Decides-eqb x y).0
-
-numbers-self : (x : ℕ) → nat_eq x x ≡ true
-numbers-self x = (Decides-eqb x x).1 refl
 
 module _ (records : Records) (order : List ℕ) (behind : Behind records order) (there : (i n : ℕ) → slice_get order i ≡ Some n → n < length records) (fine : AreWellFormed records) where
   abbrev new_number : ℕ → ℕ

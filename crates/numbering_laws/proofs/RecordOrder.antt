@@ -10,7 +10,7 @@ use Rattle.slang_values.specs.Value.{ValueType, unit_type, number_type, truth_ty
 use Rattle.program_trees.specs.Programs.{MethodTree, ProgramTree}
 use Rattle.program_trees.specs.Variables.{Variable}
 use Rattle.leg_rules.specs.Numbering.{Appearance, of_variable, of_type, with_new, leg_name_type, records_within, appearing_records}
-use Rattle.numbering_laws.proofs.Places.{none≢some, some_inj, In, Grows, got_below, grows_push, all_mapped, new_in, all_in_firsts}
+use Rattle.numbering_laws.proofs.Places.{none≢some, some_inj, In, Grows, got_below, grows_push, all_mapped, new_in, all_in_firsts, all_append}
 use Rattle.numbering_laws.proofs.Values.{TypeIn}
 
 pub TypeIn-map : (S T : ℕ → Type 0) → ((k : ℕ) → S k → T k) → (t : ValueType) → TypeIn S t → TypeIn T t
@@ -32,10 +32,10 @@ type_of_named S truth_type h = tt
 type_of_named S (sequence_type t) h = type_of_named S t h
 type_of_named S (record_type n) h = h
 
-numbers-true : (x y : ℕ) → nat_eq x y ≡ true → x ≡ y
+pub numbers-true : (x y : ℕ) → nat_eq x y ≡ true → x ≡ y
 numbers-true x y = (Decides-eqb x y).0
 
-numbers-self : (x : ℕ) → nat_eq x x ≡ true
+pub numbers-self : (x : ℕ) → nat_eq x x ≡ true
 numbers-self x = (Decides-eqb x x).1 refl
 
 pub fold_append : {A B : Type 0} (f : B → A → B) (b : B) (xs ys : List A) → fold f b (xs ++ ys) ≡ fold f (fold f b xs) ys
@@ -195,23 +195,19 @@ module _ (program : ProgramTree Variable) (method : MethodTree Variable) where
   abbrev pub IsThere : ℕ → Type 0
   IsThere n = n < length program.records
 
-  there_append : (xs ys : List ℕ) → AllByRecursion IsThere xs → AllByRecursion IsThere ys → AllByRecursion IsThere (xs ++ ys)
-  there_append [] ys h k = k
-  there_append (x ∷ xs) ys h k = (h.0, there_append xs ys h.1 k)
-
   module _ (fine : AreWellFormed program.records) where
     there_fields : (within : ValueType → List ℕ) → ((t : ValueType) → is_known program.records t ≡ true → AllByRecursion IsThere (within t))
         → (ts : List ValueType) → list_all (is_known program.records) ts ≡ true → AllByRecursion IsThere (flat_map within ts)
     there_fields within each [] h = tt
     there_fields within each (t ∷ ts) h =
         let p = and_parts _ _ h in
-        there_append (within t) (flat_map within ts) (each t p.0) (there_fields within each ts p.1)
+        all_append IsThere (within t) (flat_map within ts) (each t p.0) (there_fields within each ts p.1)
 
     there_named : (within : ValueType → List ℕ) → ((t : ValueType) → is_known program.records t ≡ true → AllByRecursion IsThere (within t))
         → (o : Option ℕ) → NamedIn IsThere o → AllByRecursion IsThere (option_map_or (λ n. flat_map within (fields program.records n) ++ n ∷ []) o [])
     there_named within each None e = tt
     there_named within each (Some n) e =
-        there_append (flat_map within (fields program.records n)) (n ∷ []) (there_fields within each (fields program.records n) (fine.known n e)) (e, tt)
+        all_append IsThere (flat_map within (fields program.records n)) (n ∷ []) (there_fields within each (fields program.records n) (fine.known n e)) (e, tt)
 
     there_within : (depth : ℕ) (t : ValueType) → is_known program.records t ≡ true → AllByRecursion IsThere (records_within program method depth t)
     there_within zero t h = tt
@@ -224,7 +220,7 @@ module _ (program : ProgramTree Variable) (method : MethodTree Variable) where
     pub there_all : (as' : List Appearance) → AllByRecursion (λ a. is_known program.records (appearing_type a) ≡ true) as'
         → AllByRecursion IsThere (flat_map (appearing_records program method) as')
     there_all [] h = tt
-    there_all (a ∷ as') h = there_append (appearing_records program method a) (flat_map (appearing_records program method) as') (there_one a h.0) (there_all as' h.1)
+    there_all (a ∷ as') h = all_append IsThere (appearing_records program method a) (flat_map (appearing_records program method) as') (there_one a h.0) (there_all as' h.1)
 
     -- The order of the records of a leg on which all types are known.
     pub record IsRecordOrder (order : List ℕ) (as' : List Appearance) : Type 0 where

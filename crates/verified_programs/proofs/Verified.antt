@@ -14,10 +14,12 @@ use Rattle.leg_rules.specs.Mentions.{some_mention}
 use Rattle.leg_rules.specs.Answers.{verified}
 use Rattle.leg_soundness.specs.Passing.{begins, Passes, leg_types, AtEnd, LegsPass}
 use Rattle.typed_programs.specs.WellTyped.{IsTypedProgram}
+use Rattle.typed_soundness.proofs.Methods.{typed_safe}
 use Rattle.method_legs.proofs.Legs.{legs_typed}
 use Rattle.answer_laws.proofs.Verdicts.{verified_passes}
 use Rattle.verdict_laws.specs.Rules.{unclosed, unaccepted, verdict_by_rules}
 use Rattle.verdict_laws.proofs.Rules.{closes_only_valid, accepts_only_valid}
+use Rattle.verified_programs.specs.Laws.{VerifiedProgramsAreSafe}
 
 module _ (program : ProgramTree Variable) where
   -- Nothing is mentioned where there are no items.
@@ -60,3 +62,8 @@ module _ (program : ProgramTree Variable) where
       (legs_typed program node_files files typed number there) is_verified)
       (λ past. subst (LegsPass program) (sym (get_or_past program.methods number no_method past)) no_method_passes)
       (cases_lt number (length program.methods))
+
+-- No run of a method fails where all methods that it reaches are verified.
+pub verified_safe : VerifiedProgramsAreSafe
+verified_safe program node_files files from typed reached =
+    typed_safe program node_files files from typed (λ number leads. reached_pass program node_files files typed number (reached number leads))
