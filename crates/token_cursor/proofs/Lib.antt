@@ -1,0 +1,4 @@
+pub mod Steps
+pub mod Exits
+pub mod Turns
+pub mod ReadTypes

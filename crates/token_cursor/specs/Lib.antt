@@ -1,0 +1,4 @@
+pub mod Outcome
+pub mod Gives
+pub mod Lists
+pub mod Types
