@@ -8,7 +8,4 @@ pub mod Steps
 pub mod Statements
 pub mod Records
 pub mod Projects
-pub mod LeftOut
-pub mod Written
-pub mod Examples
 pub mod Laws

@@ -1,12 +1,6 @@
 ghost use Rattle.std.specs.Prelude.{List};
 ghost use Rattle.slang_tree.specs.DeclTree.{DeclTree, MethodDeclTree};
-ghost use Rattle.type_rules.specs.Examples.{TypingExamples};
 ghost use Rattle.type_rules.specs.Laws.{CountsMethods, FirstFaultIsFirst};
-
-/// The rules, computed on small projects.
-pub fn typing_on_examples()
-    ensures { TypingExamples }
-{}
 
 /// The first fault of several is the one of least place, and of those the one of least code.
 pub fn first_fault_is_first()

@@ -3,9 +3,3 @@ pub mod Claims
 pub mod Values
 pub mod Code
 pub mod TypedProjects
-pub mod Faultless
-pub mod Fits
-pub mod Kept
-pub mod Nodes
-pub mod WellTyped
-pub mod Examples

@@ -1,0 +1,4 @@
+pub mod Parts
+pub mod ClaimParts
+pub mod ClaimForms
+pub mod ClaimTypes

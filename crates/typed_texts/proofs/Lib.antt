@@ -1,9 +1,0 @@
-pub mod Parts
-pub mod ClaimParts
-pub mod ClaimForms
-pub mod ClaimTypes
-pub mod Faultless
-pub mod Kept
-pub mod Closed
-pub mod Nodes
-pub mod WellTyped

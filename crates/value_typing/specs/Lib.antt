@@ -1,0 +1,5 @@
+pub mod Faultless
+pub mod Kept
+pub mod Nodes
+pub mod WellTyped
+pub mod Records
