@@ -43,7 +43,7 @@ class Checker:
     def __init__(self, closer: Closer, base: Sequent) -> None:
         self.closer, self.base = closer, base
         self.make = closer.terms.make
-        self.ended: set[Term] = set()           # the symbols of all blocks that have ended, also of those inside other blocks
+        self.ended: set[Term] = set()           # the symbols of all blocks that have ended, also inside other blocks
         self.earlier: list[Term] = []           # all claims and assumptions so far, visible or not
 
     def steps(self, steps: list[TermStep], visible: dict[int, Term | TermStep]) -> None:
@@ -77,7 +77,9 @@ class Checker:
         if symbols_in(step.claim, set()) & self.ended:
             raise Refused(step.label, "symbol")
         if step.rule in ("Algebra", "Auto"):
-            facts = cited if step.rule == "Algebra" else [*self.base.facts, *(it for it in visible.values() if isinstance(it, Term))]
+            facts = cited
+            if step.rule == "Auto":
+                facts = [*self.base.facts, *(it for it in visible.values() if isinstance(it, Term))]
             if self.closer.answer(Sequent(self.base.sorts, self.base.records, facts, step.claim)) != "closed":
                 raise Refused(step.label, "not closed")
 

@@ -1,5 +1,7 @@
 #!/usr/bin/env python3
-"""Worked rows of the rules, tried on this second reading: what `check` prints, how `run` ends, which step of a proof is refused.
+"""Worked rows of the rules, tried on this second reading.
+
+What `check` prints, how `run` ends, which step of a proof is refused, and why.
 
     oracle/rows.py [WORD..]         the rows whose names hold one of the words, or all
 """
@@ -44,19 +46,20 @@ SPIN = method("spin(x: Z): Z", "Ensures(F)", "val y: Z = spin(x)", "return y")
 
 
 def count(step: str) -> str:
-    return method("count(n: Z): Z", "Requires(n >= 0); Ensures(Res == n)", "var i: Z = 0", "while (i < n) {", "  Invariant(",
-                  "    Modifies(i),", "    i <= n", "  )", f"  i = i + {step}", "}", "return i")
+    loop = ["while (i < n) {", "  Invariant(", "    Modifies(i),", "    i <= n", "  )", f"  i = i + {step}", "}"]
+    return method("count(n: Z): Z", "Requires(n >= 0); Ensures(Res == n)", "var i: Z = 0", *loop, "return i")
 
 
 def swap(cited: str) -> str:
-    return method("swap(p: B, q: B): Unit", "Requires(p & q)", "Deduce(", "  1 (p & q) by Premise,", "  2 (q) by AndE2(1),",
-                  "  3 (p) by AndE1(1),", f"  4 (q & p) by AndI({cited})", ")")
+    steps = ["  1 (p & q) by Premise,", "  2 (q) by AndE2(1),", "  3 (p) by AndE1(1),", f"  4 (q & p) by AndI({cited})"]
+    return method("swap(p: B, q: B): Unit", "Requires(p & q)", "Deduce(", *steps, ")")
 
 
 def ranged(assumed: str, rule: str) -> str:
+    block = ["  2 Let((k: Z) => SubProof(", f"    3 Assume({assumed}),", f"    4 (a(k) > 0) by {rule},",
+             "    5 (a(k) >= 1) by Algebra(4)", "  )),"]
     return method("r(a: ISZ[Z]): Unit", "Requires(All(a.indices)(i => a(i) > 0))", "Deduce(",
-                  "  1 (All(a.indices)(i => a(i) > 0)) by Premise,", "  2 Let((k: Z) => SubProof(", f"    3 Assume({assumed}),",
-                  f"    4 (a(k) > 0) by {rule},", "    5 (a(k) >= 1) by Algebra(4)", "  )),",
+                  "  1 (All(a.indices)(i => a(i) > 0)) by Premise,", *block,
                   "  6 (All(a.indices)(j => a(j) >= 1)) by AllI(2)", ")")
 
 
@@ -79,9 +82,14 @@ def indices(last: int) -> str:
     return method("i(a: ISZ[Z]): Unit", f"Requires(All(a.indices)(k => a(k) >= 0), {claims})", "assert(a(0) >= 0)")
 
 
+def doublings(last: int) -> list[str]:
+    """Values each of which takes the one before it twice."""
+    before = ["p", *(f"a{it}" for it in range(1, last))]
+    return [f"val a{place}: B = {it} & {it}" for place, it in enumerate(before, 1)]
+
+
 def doubled(last: int) -> str:
-    vals = [f"val a{it}: B = {'p' if it == 1 else f'a{it - 1}'} & {'p' if it == 1 else f'a{it - 1}'}" for it in range(1, last + 1)]
-    return method("big(p: B): Unit", "", *vals)
+    return method("big(p: B): Unit", "", *doublings(last))
 
 
 def alternatives(number: int) -> str:
@@ -98,7 +106,8 @@ def keep(ensures: str) -> str:
 
 
 def both(ensures: str) -> str:
-    return method("both(p: B, q: B): B", f"Requires(p & q); Ensures({ensures})", "val r: B = p & q", "assert(r)", "return r")
+    return method("both(p: B, q: B): B", f"Requires(p & q); Ensures({ensures})", "val r: B = p & q", "assert(r)",
+        "return r")
 
 
 def one(name: str, rest: str) -> str:
@@ -111,12 +120,16 @@ CHECKS = {
     "empty": ("", "methods 0 verified 0"),
     "successor": (INC, one("inc", "verified")),
     "successor, too great": (inc("Res > x + 1"), one("inc", "unproved -:4:13 ensures open")),
-    "odd is not even": (method("odd(x: Z, y: Z): Z", "Requires(2 * x == 2 * y + 1); Ensures(F)", "return x"), one("odd", "verified")),
+    "odd is not even": (
+        method("odd(x: Z, y: Z): Z", "Requires(2 * x == 2 * y + 1); Ensures(F)", "return x"), one("odd", "verified")),
     "square": (method("sq(x: Z): Z", "Ensures(Res >= 0)", "return x * x"), one("sq", "unproved -:3:13 ensures open")),
     "read": ("def at(a: ISZ[Z], i: Z): Z = {\n  return a(i)\n}", one("at", "unproved -:2:10 index open")),
     "read within": (f"def at(a: ISZ[Z], i: Z): Z = {{\n{INDEX}  return a(i)\n}}", one("at", "verified")),
-    "update": ("def put(a: ISZ[Z], i: Z, v: Z): Unit = {\n  assert(a(i ~> v)(i) == v)\n}", one("put", "unproved -:2:10 assert open")),
-    "update within": (f"def put(a: ISZ[Z], i: Z, v: Z): Unit = {{\n{INDEX}  assert(a(i ~> v)(i) == v)\n}}", one("put", "verified")),
+    "update": (
+        "def put(a: ISZ[Z], i: Z, v: Z): Unit = {\n  assert(a(i ~> v)(i) == v)\n}",
+        one("put", "unproved -:2:10 assert open")),
+    "update within": (
+        f"def put(a: ISZ[Z], i: Z, v: Z): Unit = {{\n{INDEX}  assert(a(i ~> v)(i) == v)\n}}", one("put", "verified")),
     "loop by two": (count("2"), one("count", "unproved -:10:7 invariant-kept open")),
     "loop by one": (count("1"), one("count", "verified")),
     "without end": (SPIN, one("spin", "verified")),
@@ -125,16 +138,22 @@ CHECKS = {
     "range": (ranged("0 <= k & k < a.size", "AllE(1, 3)"), one("r", "verified")),
     "range, assumes more": (ranged("k == 0 & a.size > 0", "Auto"), one("r", "unproved -:5:3 deduce step 6")),
     "callee": ({"f.sc": bases("5")}, "base verified / top verified / methods 2 verified 2"),
-    "callee, weaker": ({"f.sc": bases("4")}, "base verified / top unproved f.sc:9:13 ensures open / methods 2 verified 1"),
+    "callee, weaker": (
+        {"f.sc": bases("4")}, "base verified / top unproved f.sc:9:13 ensures open / methods 2 verified 1"),
     "nine branches": (branches(9), "m legs many / methods 1 verified 0"),
     "eight branches": (branches(8), one("m", "verified")),
-    "wide": ("def big(x: Z): Unit = {\n  assert(x < 2305843009213693952)\n}", one("big", "unproved -:2:10 assert wide")),
-    "literal": ("def big(x: Z): Unit = {\n  assert(x < 170141183460469231731687303715884105728)\n}",
-                "-:2:14 E3 literal outside 128 bits"),
-    "burn controller": (BURN, "clamp verified / closeAll verified / plan verified / ready verified / spend verified / step verified / "
-                              "methods 6 verified 6"),
-    "two files": ({"b.sc": "val t: Z = T\n", "a.sc": "def f(): Z = {\n  return y\n}\n"},
-                  "a.sc:2:10 E6 unknown name / b.sc:1:12 E8 type differs"),
+    "wide": (
+        "def big(x: Z): Unit = {\n  assert(x < 2305843009213693952)\n}", one("big", "unproved -:2:10 assert wide")),
+    "literal": (
+        "def big(x: Z): Unit = {\n  assert(x < 170141183460469231731687303715884105728)\n}",
+        "-:2:14 E3 literal outside 128 bits"),
+    "burn controller": (
+        BURN,
+        "clamp verified / closeAll verified / plan verified / ready verified / spend verified / step verified"
+        " / methods 6 verified 6"),
+    "two files": (
+        {"b.sc": "val t: Z = T\n", "a.sc": "def f(): Z = {\n  return y\n}\n"},
+        "a.sc:2:10 E6 unknown name / b.sc:1:12 E8 type differs"),
     "no invariant": ("def w(): Unit = {\n  while (T) {\n  }\n}", "-:3:3 E13 loop without Invariant"),
     "call in return": (INC + "def u(): Z = {\n  return inc(1)\n}", "-:9:10 E12 call in the wrong place"),
     "old and entry value": (bump("Modifies(g); "), one("bump", "verified")),
@@ -147,7 +166,8 @@ CHECKS = {
     "term of 16,383 nodes": (doubled(13), one("big", "verified")),
     "1,024 cases": (alternatives(10), one("c", "unproved -:4:13 ensures cases")),
     "512 cases": (alternatives(9), one("c", "verified")),
-    "minus begins a statement": ("def f(x: Z): Z = {\n  val y: Z = x\n  - 1\n  return y\n}", "-:3:3 E4 unexpected token"),
+    "minus begins a statement": (
+        "def f(x: Z): Z = {\n  val y: Z = x\n  - 1\n  return y\n}", "-:3:3 E4 unexpected token"),
     "minus ends a line": ("def f(x: Z): Z = {\n  val y: Z = x -\n  1\n  return y\n}", one("f", "verified")),
     "arrow beside plus": ("def g(p: B, x: Z): Unit = {\n  assert(p ->: x + 1 == 2)\n}", "-:2:18 E4 unexpected token"),
     "modified by a callee": (called_up(), "up verified / use unproved -:15:10 assert open / methods 2 verified 1"),
@@ -159,56 +179,101 @@ CHECKS = {
     "not UTF-8": (b"def \xff", "-:1:5 E1 not UTF-8"),
     "open comment": ("/*", "-:1:1 E2 bad character"),
     # beyond the worked rows: one for each sentence on legs that none of them needs
-    "guards of divisions": (method("g(x: Z, y: Z): B", "", "return (x != 0) -->: (y == 0 || 1 / x + 6 / y > 0)"), one("g", "verified")),
-    "no guard by a claim's arrow": (method("g(x: Z): B", "", "return (x != 0) ->: (1 / x > 0)"), one("g", "unproved -:2:24 division open")),
-    "entry value at a call": ("var g: Z = 0\n" + method("up(n: Z): Z", "Requires(n > 0); Modifies(g); Ensures(g == In(g) + n, Res == In(g))",
-                              "val was: Z = g", "g = g + n", "return was")
-                              + method("use(): Unit", "Modifies(g)", "g = 4", "val r: Z = up(3)", "assert(r == 4 & g == 7)"),
-                              "up verified / use verified / methods 2 verified 2"),
-    "Requires at a call": (INC + method("use(y: Z): Z", "", "val r: Z = inc(y)", "return r"),
-                           "inc verified / use unproved -:9:14 requires open / methods 2 verified 1"),
-    "legs of a branch in order": (method("b(p: B): Unit", "", "if (p) {", "  assert(F)", "} else {", "  assert(!p)", "  assert(p)", "}"),
-                                  one("b", "unproved -:3:12 assert open")),
-    "each path alone": (method("b(p: B): Z", "Ensures(Res >= 1)", "var r: Z = 0", "if (p) {", "  r = 1", "} else {", "  r = 2", "}", "return r"),
-                        one("b", "verified")),
-    "before a loop is forgotten": (method("l(n: Z): Unit", "", "var i: Z = 0", "while (i < n) {", "  Invariant(Modifies(i))",
-                                          "  i = i + 1", "}", "assert(i >= n)", "assert(i == 0)"), one("l", "unproved -:8:10 assert open")),
-    "test of a loop by its invariant": (method("l(n: Z): Unit", "", "var i: Z = 1", "while (6 / i > 2) {",
-                                               "  Invariant(Modifies(i), i >= 1)", "  i = i + 1", "}"), one("l", "verified")),
-    "first invariant": (method("l(n: Z): Unit", "", "var i: Z = n", "while (F) {", "  Invariant(Modifies(i), i >= n, i > n)", "}"),
-                        one("l", "unproved -:4:36 invariant-start open")),
-    "constants": ("val c: Z = 3\nvar g: Z = 3\n" + method("k(): Unit", "", "assert(c == 3)", "assert(g == 3)"),
-                  one("k", "unproved -:5:10 assert open")),
-    "old before the last change": ("var g: Z = 0\n" + method("o(): Unit", "Modifies(g)", "g = 1", "g = 2",
-                                   "Deduce(1 (Old(g) == 1) by Auto)"), one("o", "verified")),
-    "old of what was not changed": ("var g: Z = 0\n" + method("o(): Unit", "", "Deduce(1 (Old(g) == g) by Auto)"), one("o", "verified")),
-    "claims of a proof are facts": (method("d(p: B, q: B): Unit", "Requires(p, p ->: q)", "Deduce(", "  1 (p) by Premise,",
-                                           "  2 (p ->: q) by Premise,", "  3 (q) by ImplyE(2, 1)", ")", "assert(q)"), one("d", "verified")),
-    "claims of a block are none": (method("d(p: B): Unit", "", "Deduce(1 SubProof(2 Assume(p), 3 (p) by Auto))", "assert(p)"),
-                                   one("d", "unproved -:3:10 assert open")),
-    "no block at the end of a block": (method("d(p: B): Unit", "", "Deduce(1 SubProof(2 Assume(p), 3 SubProof(4 Assume(p))), 5 (p ->: p) by ImplyI(1))"),
-                                       one("d", "unproved -:2:3 deduce step 5")),
-    "a block without a step": (method("d(p: B): Unit", "", "Deduce(1 SubProof(2 Assume(p)), 3 (p ->: p) by ImplyI(1))"), one("d", "verified")),
-    "a label of an ended block": (method("d(p: B): Unit", "", "Deduce(1 SubProof(2 Assume(p), 3 (p) by Auto), 4 (p) by AndE1(3))"),
-                                  one("d", "unproved -:2:3 deduce step 4")),
-    "algebra knows no facts": (method("d(x: Z): Unit", "Requires(x > 0)", "Deduce(1 (x > 0) by Premise, 2 (x >= 1) by Algebra)"),
-                               one("d", "unproved -:5:3 deduce step 2")),
-    "premises are no assumptions": (method("d(p: B): Unit", "", "Deduce(1 SubProof(2 Assume(p), 3 (p) by Premise))"),
-                                    one("d", "unproved -:2:3 deduce step 3")),
-    "replaced from the top down": (method("d(x: Z): Unit", "Requires(x == x + 1 - 1, x > 0)", "Deduce(", "  1 (x == x + 1 - 1) by Premise,",
-                                          "  2 (x > 0) by Premise,", "  3 (x + 1 - 1 > 0) by Subst_>(1, 2),", "  4 (x > 0) by Subst_<(1, 3)", ")"),
-                                   one("d", "verified")),
-    "disjunction": (method("d(p: B, q: B): Unit", "Requires(p | q)", "Deduce(1 (p | q) by Premise,",
-                           "2 SubProof(3 Assume(p), 4 (q | p) by OrI2(3)),", "5 SubProof(6 Assume(q), 7 (q | p) by OrI1(6)),",
-                           "8 (q | p) by OrE(1, 2, 5))"), one("d", "verified")),
-    "contradiction": (method("d(p: B): Unit", "Requires(!(!p))", "Deduce(1 (!(!p)) by Premise,",
-                             "2 SubProof(3 Assume(!p), 4 (F) by NegE(3, 1)), 5 (p) by PbC(2),",
-                             "6 SubProof(7 Assume(!p), 8 (F) by NegE(7, 1)), 9 (!(!p)) by NegI(6))"), one("d", "verified")),
-    "existence": (method("d(a: ISZ[Z], n: Z): Unit", "Requires(Exists(0 until n)(i => a(i) > 0))", "Deduce(",
-                         "1 (Exists(0 until n)(i => a(i) > 0)) by Premise,",
-                         "2 Let((k: Z) => SubProof(3 Assume((0 <= k & k < n) & a(k) > 0), 4 (0 <= k & k < n) by AndE1(3),",
-                         "5 (a(k) > 0) by AndE2(3), 6 (a(k) >= 1) by Algebra(5), 7 (Exists(0 until n)(j => a(j) >= 1)) by ExistsI(4, 6))),",
-                         "8 (Exists(0 until n)(j => a(j) >= 1)) by ExistsE(1, 2))"), one("d", "verified")),
+    "guards of divisions": (
+        method("g(x: Z, y: Z): B", "", "return (x != 0) -->: (y == 0 || 1 / x + 6 / y > 0)"), one("g", "verified")),
+    "no guard by a claim's arrow": (
+        method("g(x: Z): B", "", "return (x != 0) ->: (1 / x > 0)"), one("g", "unproved -:2:24 division open")),
+    "entry value at a call": (
+        "var g: Z = 0\n"
+        + method("up(n: Z): Z", "Requires(n > 0); Modifies(g); Ensures(g == In(g) + n, Res == In(g))",
+              "val was: Z = g", "g = g + n", "return was")
+        + method("use(): Unit", "Modifies(g)", "g = 4", "val r: Z = up(3)", "assert(r == 4 & g == 7)"),
+        "up verified / use verified / methods 2 verified 2"),
+    "Requires at a call": (
+        INC + method("use(y: Z): Z", "", "val r: Z = inc(y)", "return r"),
+        "inc verified / use unproved -:9:14 requires open / methods 2 verified 1"),
+    "legs of a branch in order": (
+        method("b(p: B): Unit", "", "if (p) {", "  assert(F)", "} else {", "  assert(!p)", "  assert(p)", "}"),
+        one("b", "unproved -:3:12 assert open")),
+    "each path alone": (
+        method("b(p: B): Z", "Ensures(Res >= 1)", "var r: Z = 0", "if (p) {", "  r = 1", "} else {", "  r = 2", "}",
+            "return r"), one("b", "verified")),
+    "before a loop is forgotten": (
+        method("l(n: Z): Unit", "", "var i: Z = 0", "while (i < n) {", "  Invariant(Modifies(i))", "  i = i + 1", "}",
+            "assert(i >= n)", "assert(i == 0)"), one("l", "unproved -:8:10 assert open")),
+    "test of a loop by its invariant": (
+        method("l(n: Z): Unit", "", "var i: Z = 1", "while (6 / i > 2) {", "  Invariant(Modifies(i), i >= 1)",
+            "  i = i + 1", "}"), one("l", "verified")),
+    "first invariant": (
+        method("l(n: Z): Unit", "", "var i: Z = n", "while (F) {", "  Invariant(Modifies(i), i >= n, i > n)", "}"),
+        one("l", "unproved -:4:36 invariant-start open")),
+    "constants": (
+        "val c: Z = 3\nvar g: Z = 3\n" + method("k(): Unit", "", "assert(c == 3)", "assert(g == 3)"),
+        one("k", "unproved -:5:10 assert open")),
+    "old before the last change": (
+        "var g: Z = 0\n" + method("o(): Unit", "Modifies(g)", "g = 1", "g = 2", "Deduce(1 (Old(g) == 1) by Auto)"),
+        one("o", "verified")),
+    "old of what was not changed": (
+        "var g: Z = 0\n" + method("o(): Unit", "", "Deduce(1 (Old(g) == g) by Auto)"), one("o", "verified")),
+    "claims of a proof are facts": (
+        method("d(p: B, q: B): Unit", "Requires(p, p ->: q)", "Deduce(", "  1 (p) by Premise,",
+            "  2 (p ->: q) by Premise,", "  3 (q) by ImplyE(2, 1)", ")", "assert(q)"), one("d", "verified")),
+    "claims of a block are none": (
+        method("d(p: B): Unit", "", "Deduce(1 SubProof(2 Assume(p), 3 (p) by Auto))", "assert(p)"),
+        one("d", "unproved -:3:10 assert open")),
+    "no block at the end of a block": (
+        method("d(p: B): Unit", "",
+            "Deduce(1 SubProof(2 Assume(p), 3 SubProof(4 Assume(p))), 5 (p ->: p) by ImplyI(1))"),
+        one("d", "unproved -:2:3 deduce step 5")),
+    "a block without a step": (
+        method("d(p: B): Unit", "", "Deduce(1 SubProof(2 Assume(p)), 3 (p ->: p) by ImplyI(1))"),
+        one("d", "verified")),
+    "a label of an ended block": (
+        method("d(p: B): Unit", "", "Deduce(1 SubProof(2 Assume(p), 3 (p) by Auto), 4 (p) by AndE1(3))"),
+        one("d", "unproved -:2:3 deduce step 4")),
+    "algebra knows no facts": (
+        method("d(x: Z): Unit", "Requires(x > 0)", "Deduce(1 (x > 0) by Premise, 2 (x >= 1) by Algebra)"),
+        one("d", "unproved -:5:3 deduce step 2")),
+    "premises are no assumptions": (
+        method("d(p: B): Unit", "", "Deduce(1 SubProof(2 Assume(p), 3 (p) by Premise))"),
+        one("d", "unproved -:2:3 deduce step 3")),
+    "replaced from the top down": (
+        method("d(x: Z): Unit", "Requires(x == x + 1 - 1, x > 0)", "Deduce(", "  1 (x == x + 1 - 1) by Premise,",
+            "  2 (x > 0) by Premise,", "  3 (x + 1 - 1 > 0) by Subst_>(1, 2),", "  4 (x > 0) by Subst_<(1, 3)", ")"),
+        one("d", "verified")),
+    "a proof with a large term": (
+        method("big(p: B): Unit", "", *doublings(13), "Deduce(1 (a13 & a13) by Auto)"),
+        one("big", "unproved -:15:3 deduce size")),
+    "a claim with a large term": (
+        method("big(p: B): Unit", "", *doublings(13), "assert(a13 & a13)"),
+        one("big", "unproved -:15:10 assert size")),
+    "an assumption with a large term": (
+        method("big(p: B): Unit", "", *doublings(13), "if (a13 & a13) {", "  assert(F)", "}"),
+        one("big", "unproved -:15:3 term size")),
+    "else with if": (
+        method("e(x: Z): Z", "Ensures(Res == 1)", "var r: Z = 0", "if (x < 0) {", "  r = 1", "} else if (x > 0) {",
+            "  r = 1", "}", "return r"), one("e", "unproved -:3:13 ensures open")),
+    "old before the first change": (
+        method("o(): Unit", "", "var x: Z = 1", "Deduce(1 (Old(x) == x) by Auto)"),
+        one("o", "unproved -:3:3 deduce step 1")),
+    "old before a loop": (
+        method("o(n: Z): Unit", "", "var i: Z = 5", "while (i < n) {", "  Invariant(Modifies(i), i >= 5)",
+            "  i = i + 1", "}", "Deduce(1 (Old(i) == 5 & i >= Old(i)) by Auto)"), one("o", "verified")),
+    "disjunction": (
+        method("d(p: B, q: B): Unit", "Requires(p | q)", "Deduce(1 (p | q) by Premise,",
+            "2 SubProof(3 Assume(p), 4 (q | p) by OrI2(3)),", "5 SubProof(6 Assume(q), 7 (q | p) by OrI1(6)),",
+            "8 (q | p) by OrE(1, 2, 5))"), one("d", "verified")),
+    "contradiction": (
+        method("d(p: B): Unit", "Requires(!(!p))", "Deduce(1 (!(!p)) by Premise,",
+            "2 SubProof(3 Assume(!p), 4 (F) by NegE(3, 1)), 5 (p) by PbC(2),",
+            "6 SubProof(7 Assume(!p), 8 (F) by NegE(7, 1)), 9 (!(!p)) by NegI(6))"), one("d", "verified")),
+    "existence": (
+        method("d(a: ISZ[Z], n: Z): Unit", "Requires(Exists(0 until n)(i => a(i) > 0))", "Deduce(",
+            "1 (Exists(0 until n)(i => a(i) > 0)) by Premise,",
+            "2 Let((k: Z) => SubProof(3 Assume((0 <= k & k < n) & a(k) > 0),", "4 (0 <= k & k < n) by AndE1(3),",
+            "5 (a(k) > 0) by AndE2(3), 6 (a(k) >= 1) by Algebra(5),",
+            "7 (Exists(0 until n)(j => a(j) >= 1)) by ExistsI(4, 6))),",
+            "8 (Exists(0 until n)(j => a(j) >= 1)) by ExistsE(1, 2))"), one("d", "verified")),
 }
 
 # ---------------------------------------------------------------- runs
@@ -249,21 +314,35 @@ RUNS = {
     "turns of closeAll": (BURN, ["closeAll", "11", VALVES], "ended ISZ(Valve(F, 0), Valve(F, 0))"),
     "no statement, no turn": (method("n(): Unit"), "n 0", "ended ()"),
     "ensures without a turn": (method("n(): Unit", "Ensures(F)"), "n 0", "fails ensures -:3:13"),
-    "later invariant": (method("l(n: Z): Unit", "", "var i: Z = 0", "while (i < n) {", "  Invariant(Modifies(i), i < 2)", "  i = i + 1", "}"),
-                        "l 7 5", "fails invariant-kept -:4:28"),
-    "invariant before the turn of its test": (method("l(n: Z): Unit", "", "var i: Z = 0", "while (i < n) {", "  Invariant(Modifies(i), i < 2)",
-                                                     "  i = i + 1", "}"), "l 6 5", "fails invariant-kept -:4:28"),
-    "first invariant": (method("l(): Unit", "", "var i: Z = 0", "while (F) {", "  Invariant(Modifies(i), i > 0)", "}"), "l 2",
-                        "fails invariant-start -:4:28"),
-    "requires of a callee": (INC + method("u(): Z", "", "val y: Z = inc(-1)", "return y"), "u 9", "fails requires -:9:14"),
-    "ensures of a callee": (inc("Res > x + 1") + method("u(): Z", "", "val y: Z = inc(1)", "return y"), "u 9", "fails ensures -:4:13"),
-    "entry value": ("var g: Z = 3\n" + method("u(): Z", "Modifies(g); Ensures(g == In(g) + 1)", "g = g + 1", "return g"), "u 2", "ended 4"),
+    "later invariant": (
+        method("l(n: Z): Unit", "", "var i: Z = 0", "while (i < n) {", "  Invariant(Modifies(i), i < 2)",
+            "  i = i + 1", "}"), "l 7 5", "fails invariant-kept -:4:28"),
+    "invariant before the turn of its test": (
+        method("l(n: Z): Unit", "", "var i: Z = 0", "while (i < n) {", "  Invariant(Modifies(i), i < 2)",
+            "  i = i + 1", "}"), "l 6 5", "fails invariant-kept -:4:28"),
+    "first invariant": (
+        method("l(): Unit", "", "var i: Z = 0", "while (F) {", "  Invariant(Modifies(i), i > 0)", "}"),
+        "l 2", "fails invariant-start -:4:28"),
+    "requires of a callee": (
+        INC + method("u(): Z", "", "val y: Z = inc(-1)", "return y"), "u 9", "fails requires -:9:14"),
+    "ensures of a callee": (
+        inc("Res > x + 1") + method("u(): Z", "", "val y: Z = inc(1)", "return y"), "u 9", "fails ensures -:4:13"),
+    "entry value": (
+        "var g: Z = 3\n" + method("u(): Z", "Modifies(g); Ensures(g == In(g) + 1)", "g = g + 1", "return g"),
+        "u 2", "ended 4"),
     "right side that does not decide": (method("s(x: Z): B", "", "return x != 0 && 1 / x > 0"), "s 1 0", "ended F"),
-    "right side of a claim's sign": (method("s(x: Z): B", "", "return x != 0 & 1 / x > 0"), "s 1 0", "fails division -:2:19"),
-    "total in claims": (method("s(x: Z, a: ISZ[Z]): Unit", "", "assert(1 / x == 0 & 5 % x == 0 & a(7) == 0 & a(7 ~> 1) == a)"),
-                        ["s", "1", "0", "ISZ[Z]( )"], "ended ()"),
+    "right side of a claim's sign": (
+        method("s(x: Z): B", "", "return x != 0 & 1 / x > 0"), "s 1 0", "fails division -:2:19"),
+    "total in claims": (
+        method("s(x: Z, a: ISZ[Z]): Unit", "", "assert(1 / x == 0 & 5 % x == 0 & a(7) == 0 & a(7 ~> 1) == a)"),
+        ["s", "1", "0", "ISZ[Z]( )"], "ended ()"),
     "wide in a claim": (method("s(x: Z): Unit", "", "assert(F & x + 1 > 0)"), f"s 1 {GREATEST}", "wide -:2:10"),
     "deduce does nothing": (method("s(): Unit", "", "Deduce(1 (F) by Auto)"), "s 1", "ended ()"),
+    "else with if": (method("e(): Unit", "", "if (F) {", "} else if (T) {", "}"), "e 1", "going"),
+    "else with if, two turns": (method("e(): Unit", "", "if (F) {", "} else if (T) {", "}"), "e 2", "ended ()"),
+    "the first body decides": (
+        method("s(x: Z): Unit", "", "assert(Exists(0 until x)(i => i == 3) & !All(0 until x)(i => i < 9))"),
+        f"s 1 {GREATEST}", "ended ()"),
     "another type": (INC, "inc 1 T", "arguments"),
     "blanks after a minus": (INC, ["inc", "0", "-  1"], "fails requires -:1:5"),
 }
@@ -287,26 +366,30 @@ def proofs():
     exists = make("Exists", zero, n, positive(make("bound", number=0)))
     inside = make("&", make("<=", zero, k), make("<", k, n))
     own = make("==", k, k)
-    body = TermStep(3, make("&", inside, positive(k)), assumed=3, symbol=k, steps=[TermStep(4, positive(k, 1), "Algebra", [3])])
-    witness = TermStep(2, body.claim, assumed=3, symbol=k, steps=body.steps)
+    least_one, self_same = TermStep(4, positive(k, 1), "Algebra", [3]), TermStep(5, own, "Auto")
+    witness = TermStep(2, make("&", inside, positive(k)), assumed=3, symbol=k, steps=[least_one])
 
     def block(label, assumed, *steps, symbol=None):
         return TermStep(label, make("T"), assumed=assumed, symbol=symbol, steps=list(steps))
 
+    nested = block(1, 2, block(3, 4, symbol=k))
     table = {
         "an unknown label": ([both_hold], [TermStep(1, p, "AndE1", [9])], (1, "cite 9")),
         "no premise": ([both_hold], [TermStep(1, swapped, "Premise")], (1, "shape")),
         "not closed": ([], [TermStep(1, p, "Auto")], (1, "not closed")),
-        "a witness that leaves its block": ([exists], [TermStep(1, exists, "Premise"), witness, TermStep(5, positive(k, 1), "ExistsE", [1, 2])],
-                                            (5, "symbol")),
-        "a symbol behind its block": ([], [block(1, 2, symbol=k), TermStep(3, own, "Auto")], (3, "symbol")),
-        "a symbol behind the block around its own": ([], [block(1, 2, block(3, 4, symbol=k)), TermStep(5, own, "Auto")], (5, "symbol")),
-        "an assumption with it": ([], [block(1, 2, block(3, 4, symbol=k)), TermStep(5, own, assumed=6)], (6, "symbol")),
+        "a witness that leaves its block": (
+            [exists], [TermStep(1, exists, "Premise"), witness, TermStep(5, positive(k, 1), "ExistsE", [1, 2])],
+            (5, "symbol")),
+        "a symbol behind its block": ([], [block(1, 2, symbol=k), self_same], (5, "symbol")),
+        "a symbol behind the block around its own": ([], [nested, self_same], (5, "symbol")),
+        "an assumption with it": ([], [nested, TermStep(5, own, assumed=6)], (6, "symbol")),
         "a symbol of a fact": ([own], [block(1, 2, symbol=k)], (1, "symbol")),
-        "a symbol of a step before": ([], [TermStep(1, own, "Auto"), block(2, 3, symbol=k)], (2, "symbol")),
-        "one symbol of two blocks": ([], [block(1, 2, symbol=k), block(3, 4, TermStep(5, own, "Auto"), symbol=k)], None),
-        "one symbol of two blocks, then none": ([], [block(1, 2, symbol=k), block(3, 4, symbol=k), TermStep(5, own, "Auto")], (5, "symbol")),
-        "one count too many": ([both_hold], [TermStep(1, both_hold, "Premise"), TermStep(2, p, "AndE1", [1, 1])], (2, "shape")),
+        "a symbol of a step before": ([], [self_same, block(1, 2, symbol=k)], (1, "symbol")),
+        "one symbol of two blocks": ([], [block(1, 2, symbol=k), block(3, 4, self_same, symbol=k)], None),
+        "one symbol of two blocks, then none": (
+            [], [block(1, 2, symbol=k), block(3, 4, symbol=k), self_same], (5, "symbol")),
+        "one label too many": (
+            [both_hold], [TermStep(1, both_hold, "Premise"), TermStep(2, p, "AndE1", [1, 1])], (2, "shape")),
         "a block for a claim": ([], [block(1, 2), TermStep(3, make("T"), "Algebra", [1])], (3, "shape")),
         "a label before a shape": ([], [TermStep(1, own, "Algebra", [2, 1])], (1, "cite 2")),
     }
