@@ -1,5 +1,4 @@
-ghost use Rattle.std.specs.Prelude.{◌≡◌, ◌^◌, ◌-◌, ◌<◌, ◌↔◌, false, [], map, bytes_eq, string_bytes, Contains, IsErrOf, MatchOption, Some, None};
-ghost use Rattle.std.specs.List.{IsDistinct};
+ghost use Rattle.std.specs.Prelude.{◌≡◌, ◌^◌, ◌-◌, ◌<◌, ◌↔◌, false, [], Contains, IsErrOf, MatchOption, Some, None};
 ghost use Rattle.lk_io.specs.Run.{run, one_more};
 ghost use Rattle.lk_io.specs.Folder.{Reads, file_of};
 ghost use Rattle.lk_io.specs.Memory.{named};
@@ -31,9 +30,8 @@ impl Model for MemFolder {
 }
 
 impl MemFolder {
-    /// A folder of these files. The reads listed in `fail_at`, counted from 1, fail.
+    /// A folder of these files, of which the first of a name is read. The reads listed in `fail_at`, counted from 1, fail.
     pub fn new(files: Vec<NamedBytes>, fail_at: Vec<u64>) -> MemFolder
-        requires { IsDistinct bytes_eq (map (λ file. string_bytes file.name) files.items) }
         ensures { result ≡ record { files = named files.items; fail_at = fail_at.items; calls = 0; faults = 0; missed = false } }
     {
         MemFolder {
