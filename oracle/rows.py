@@ -23,7 +23,8 @@ from terms import Terms                             # noqa: E402
 from text import TextFault                          # noqa: E402
 from whole import report                            # noqa: E402
 
-BURN = pathlib.Path(__file__).resolve().with_name("burn.sc")
+CONTROLLERS = pathlib.Path(__file__).resolve().parent.parent / "examples" / "controllers"
+BURN = CONTROLLERS / "burn.sc"
 
 # ---------------------------------------------------------------- texts
 
@@ -345,6 +346,17 @@ RUNS = {
         f"s 1 {GREATEST}", "ended ()"),
     "another type": (INC, "inc 1 T", "arguments"),
     "blanks after a minus": (INC, ["inc", "0", "-  1"], "fails requires -:1:5"),
+    # each controller in its own way wrong
+    "more spent than there is": (
+        CONTROLLERS / "burn-wrong.sc", ["spend", "9", "Burn(1, 1001)"], "fails ensures -:36:40"),
+    "wound up": (CONTROLLERS / "saturation-wrong.sc", "command 99 0 101", "fails ensures -:29:7"),
+    "down at once": (CONTROLLERS / "rate-wrong.sc", "follow 9 -6", "fails ensures -:11:7"),
+    "past the end": (CONTROLLERS / "ring-wrong.sc", "rounds 999 8", "fails ensures -:47:7"),
+    "reset by a sign of life": (
+        CONTROLLERS / "watchdog-wrong.sc", ["watch", "99", "ISZ(F, F, F, T)"], "fails ensures -:14:8"),
+    "limited": (CONTROLLERS / "saturation.sc", "command 99 101 0", "ended 100"),
+    "eight rounds": (CONTROLLERS / "ring.sc", "rounds 999 8", "ended ()"),
+    "tripped for good": (CONTROLLERS / "watchdog.sc", ["watch", "99", "ISZ(F, F, F, T)"], "ended T"),
 }
 
 # ---------------------------------------------------------------- proofs
@@ -419,6 +431,9 @@ def ran(text, words) -> str:
 
 
 def answers():
+    for path in sorted(CONTROLLERS.glob("*.sc")):
+        wanted = path.with_suffix(".report").read_text()
+        yield f"example {path.stem}", lambda path=path: report([(path.name, path.read_bytes())])[0], wanted
     for name, (texts, wanted) in CHECKS.items():
         yield f"check {name}", lambda texts=texts: checked(texts), f"revision 1 / {wanted}"
     for name, (text, words, wanted) in RUNS.items():
