@@ -8,6 +8,7 @@ What `check` prints, how `run` ends, which step of a proof is refused, and why.
 from __future__ import annotations
 
 import pathlib
+import re
 import sys
 
 sys.dont_write_bytecode = True
@@ -25,6 +26,8 @@ from whole import report                            # noqa: E402
 
 CONTROLLERS = pathlib.Path(__file__).resolve().parent.parent / "examples" / "controllers"
 BURN = CONTROLLERS / "burn.sc"
+MANUAL = CONTROLLERS.parent.parent / "docs" / "VERIFYING.md"
+SHOWN = re.compile(r"```scala\n(.*?)```\n\n```\n(.*?)```", re.S)
 
 # ---------------------------------------------------------------- texts
 
@@ -434,6 +437,8 @@ def answers():
     for path in sorted(CONTROLLERS.glob("*.sc")):
         wanted = path.with_suffix(".report").read_text()
         yield f"example {path.stem}", lambda path=path: report([(path.name, path.read_bytes())])[0], wanted
+    for number, (text, wanted) in enumerate(SHOWN.findall(MANUAL.read_text())):
+        yield f"manual {number}", lambda text=text: report([("-", text.encode())])[0], wanted
     for name, (texts, wanted) in CHECKS.items():
         yield f"check {name}", lambda texts=texts: checked(texts), f"revision 1 / {wanted}"
     for name, (text, words, wanted) in RUNS.items():
