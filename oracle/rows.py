@@ -26,7 +26,7 @@ from whole import report                            # noqa: E402
 
 CONTROLLERS = pathlib.Path(__file__).resolve().parent.parent / "examples" / "controllers"
 BURN = CONTROLLERS / "burn.sc"
-MANUAL = CONTROLLERS.parent.parent / "docs" / "VERIFYING.md"
+DOCUMENTS = CONTROLLERS.parent.parent / "docs"
 SHOWN = re.compile(r"```scala\n(.*?)```\n\n```\n(.*?)```", re.S)
 
 # ---------------------------------------------------------------- texts
@@ -437,8 +437,9 @@ def answers():
     for path in sorted(CONTROLLERS.glob("*.sc")):
         wanted = path.with_suffix(".report").read_text()
         yield f"example {path.stem}", lambda path=path: report([(path.name, path.read_bytes())])[0], wanted
-    for number, (text, wanted) in enumerate(SHOWN.findall(MANUAL.read_text())):
-        yield f"manual {number}", lambda text=text: report([("-", text.encode())])[0], wanted
+    for path in sorted(DOCUMENTS.glob("*.md")):
+        for number, (text, wanted) in enumerate(SHOWN.findall(path.read_text()), 1):
+            yield f"{path.name} {number}", lambda text=text: report([("-", text.encode())])[0], wanted
     for name, (texts, wanted) in CHECKS.items():
         yield f"check {name}", lambda texts=texts: checked(texts), f"revision 1 / {wanted}"
     for name, (text, words, wanted) in RUNS.items():
