@@ -1,0 +1,4 @@
+pub mod Tests
+pub mod Runs
+pub mod Laws
+pub mod Examples
