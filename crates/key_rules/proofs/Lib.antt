@@ -1,0 +1,6 @@
+pub mod Numbers
+pub mod Readers
+pub mod Claims
+pub mod Steps
+pub mod Keys
+pub mod Examples

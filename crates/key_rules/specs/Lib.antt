@@ -1,0 +1,7 @@
+pub mod Codes
+pub mod Writing
+pub mod Fits
+pub mod Readers
+pub mod Reading
+pub mod Laws
+pub mod Examples
