@@ -1,7 +1,7 @@
 -- When a scope of a text and the types of a program's variables say the same.
 use Rattle.std.specs.Prelude.{◌≡◌, ℕ, ◌<◌, Bool, true, List, length, Some}
 use Rattle.std.specs.List.{list_all}
-use Rattle.slang_values.specs.Value.{ValueType, number_type, Records, fields, is_known}
+use Rattle.slang_values.specs.Value.{ValueType, unit_type, number_type, Records, fields, is_known}
 use Rattle.slang_values.specs.Typing.{NameTypes, IsTyped}
 use Rattle.slang_tree.specs.ExprTree.{ExprTree}
 use Rattle.program_trees.specs.Claims.{ClaimName, old_variable, let_symbol}
@@ -15,8 +15,9 @@ use Rattle.typed_texts.specs.Claims.{claim_of_tree}
 abbrev pub HasType : Records → NameTypes (ClaimName Variable) → ClaimName Variable → ValueType → Type 0
 HasType records types x t = (types x ≡ Some t) × (is_known records t ≡ true)
 
--- of the result, where a claim may speak of it
+-- of the result, where a claim may speak of it: a method of type `Unit` has none
 abbrev pub FitsResult : Records → NameTypes (ClaimName Variable) → Context → Type 0
+FitsResult records types (in_ensures (Some unit_type)) = Unit {0}
 FitsResult records types (in_ensures (Some t)) = HasType records types (names.variable result) t
 FitsResult records types other = Unit {0}
 

@@ -1,0 +1,12 @@
+pub mod Lists
+pub mod Names
+pub mod Types
+pub mod Typed
+pub mod Declares
+pub mod Fits
+pub mod Steps
+pub mod Sides
+pub mod Modified
+pub mod Forms
+pub mod Statements
+pub mod Locals
