@@ -1,0 +1,5 @@
+use Rattle.byte_faults.proofs.Bytes.{trees_of_bytes as law}
+use Rattle.byte_faults.proofs.laws.trees_of_bytes.Goals as goal
+
+pub returns : goal.returns
+returns c = law
