@@ -1,0 +1,2 @@
+pub mod TextType
+pub mod Found
