@@ -1,0 +1,9 @@
+pub mod Members
+pub mod Meanings
+pub mod Globals
+pub mod Methods
+pub mod Scopes
+pub mod Contracts
+pub mod Bodies
+pub mod Faultless
+pub mod Projects
