@@ -1,0 +1,4 @@
+pub mod Begins
+pub mod Expects
+pub mod Below
+pub mod Forms
