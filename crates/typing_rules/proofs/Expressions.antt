@@ -248,10 +248,10 @@ word_from in_proof place h = refl
 -- ---- applications
 
 -- typed arguments of these types, as they are found
-record AreArguments (scope : Scope) (context : Context) (trees : ExprTrees) (ts : List ValueType) : Type 0 where
-  typed : are_typed (judged_each scope context trees) ≡ true
-  count : length ts ≡ length (judged_each scope context trees)
-  each : expect_each ts (judged_each scope context trees) ≡ []
+pub record AreArguments (scope : Scope) (context : Context) (trees : ExprTrees) (ts : List ValueType) : Type 0 where
+  pub typed : are_typed (judged_each scope context trees) ≡ true
+  pub count : length ts ≡ length (judged_each scope context trees)
+  pub each : expect_each ts (judged_each scope context trees) ≡ []
 
 applied_to : (scope : Scope) (context : Context) (place : Place) (c : Callee) (head : ExprTree) (arguments : ExprTrees) (t : ValueType) →
     ((s : ValueType) → (judged scope context head).type ≡ Some s → HasType scope context head s) →
@@ -288,7 +288,7 @@ applied_from scope context place (a_method signature modifies) head arguments t 
 -- ---- all forms
 
 mutual
-  to : (scope : Scope) (context : Context) (tree : ExprTree) (t : ValueType) → (judged scope context tree).type ≡ Some t → HasType scope context tree t
+  pub to : (scope : Scope) (context : Context) (tree : ExprTree) (t : ValueType) → (judged scope context tree).type ≡ Some t → HasType scope context tree t
   to scope context (e.number place z) t h = sym (inside h)
   to scope context (e.truth place) t h = sym (inside h)
   to scope context (e.falsity place) t h = sym (inside h)
@@ -374,7 +374,7 @@ mutual
         to (with_bound scope named.text) context body truth_type (expects_to truth_type b (ap is_some third.0) v.1),
       )
 
-  have_to : (scope : Scope) (context : Context) (trees : ExprTrees) (ts : List ValueType) → are_typed (judged_each scope context trees) ≡ true →
+  pub have_to : (scope : Scope) (context : Context) (trees : ExprTrees) (ts : List ValueType) → are_typed (judged_each scope context trees) ≡ true →
       length ts ≡ length (judged_each scope context trees) → expect_each ts (judged_each scope context trees) ≡ [] → HaveTypes scope context trees ts
   have_to scope context no_exprs [] typed n h = tt
   have_to scope context no_exprs (t ∷ ts) typed n h = absurd (omega (arith, n))
@@ -386,7 +386,7 @@ mutual
       let q = both_nil (expects t part) (expect_each ts parts) h in
       (to scope context tree t (expects_to t part (ap is_some p.0) q.0), have_to scope context trees ts p.1 (omega (arith, n)) q.1)
 
-  each_to : (scope : Scope) (context : Context) (trees : ExprTrees) (s : ValueType) → are_typed (judged_each scope context trees) ≡ true →
+  pub each_to : (scope : Scope) (context : Context) (trees : ExprTrees) (s : ValueType) → are_typed (judged_each scope context trees) ≡ true →
       all_expect s (judged_each scope context trees) ≡ [] → EachHas scope context trees s
   each_to scope context no_exprs s typed h = tt
   each_to scope context (expr_then tree trees) s typed h =
@@ -397,7 +397,7 @@ mutual
       (to scope context tree s (expects_to s part (ap is_some p.0) q.0), each_to scope context trees s p.1 q.1)
 
 mutual
-  from : (scope : Scope) (context : Context) (tree : ExprTree) (t : ValueType) → HasType scope context tree t → (judged scope context tree).type ≡ Some t
+  pub from : (scope : Scope) (context : Context) (tree : ExprTree) (t : ValueType) → HasType scope context tree t → (judged scope context tree).type ≡ Some t
   from scope context (e.number place z) t h = ap Some (sym h)
   from scope context (e.truth place) t h = ap Some (sym h)
   from scope context (e.falsity place) t h = ap Some (sym h)
@@ -472,7 +472,7 @@ mutual
       (word_from context place h.1))
       (ap Some (sym h.0))
 
-  have_from : (scope : Scope) (context : Context) (trees : ExprTrees) (ts : List ValueType) → HaveTypes scope context trees ts → AreArguments scope context trees ts
+  pub have_from : (scope : Scope) (context : Context) (trees : ExprTrees) (ts : List ValueType) → HaveTypes scope context trees ts → AreArguments scope context trees ts
   have_from scope context no_exprs [] h = record { typed = refl; count = refl; each = refl }
   have_from scope context no_exprs (t ∷ ts) h = absurd h
   have_from scope context (expr_then tree trees) [] h = absurd h
@@ -488,7 +488,7 @@ mutual
         each = nil_both (expects t part) (expect_each ts parts) (expects_from t part first) rest.each;
       }
 
-  each_from : (scope : Scope) (context : Context) (trees : ExprTrees) (s : ValueType) → EachHas scope context trees s →
+  pub each_from : (scope : Scope) (context : Context) (trees : ExprTrees) (s : ValueType) → EachHas scope context trees s →
       (are_typed (judged_each scope context trees) ≡ true) × (all_expect s (judged_each scope context trees) ≡ [])
   each_from scope context no_exprs s h = (refl, refl)
   each_from scope context (expr_then tree trees) s h =
