@@ -1,0 +1,8 @@
+use Rattle.std.proofs.Common.{◌≡◌, ◌++◌, length, take}
+use Rattle.std.specs.List.{flat_map}
+use Rattle.key_rules.specs.Writing.{number_bytes}
+use Rattle.leg_key.specs.Parts.{fields_key}
+use Rattle.leg_key.proofs.legs.add_records.Given as goal
+
+abbrev pub invariant-loop-fields : goal.invariant-loop-fields
+invariant-loop-fields l = l.key.items ≡ l.fn.key.items ++ (number_bytes (length l.records) ++ flat_map fields_key (take l.fields-index l.records))

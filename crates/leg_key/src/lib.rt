@@ -1,0 +1,14 @@
+//! The key of a leg: its bytes, by which legs are told apart.
+#![tactic(auto)]
+
+mod bytes;
+mod claims;
+mod codes;
+mod legs;
+mod steps;
+mod types;
+
+pub use legs::encode;
+
+/// Want of memory. A list that is longer than a key can say is refused alike.
+pub type NoMemory = std::alloc::AllocError;
