@@ -1,0 +1,5 @@
+pub mod Numbers
+pub mod EndingRecords
+pub mod AlternativeLists
+pub mod ReadCases
+pub mod Sites
