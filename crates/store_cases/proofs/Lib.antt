@@ -1,0 +1,3 @@
+pub mod SharedLists
+pub mod Branching
+pub mod Whole
