@@ -3,16 +3,13 @@ use Rattle.std.proofs.Common.{◌≡◌, ℕ, suc, List, [], ◌∷◌, ◌++◌
 use Rattle.std.specs.List.{flat_map}
 use Rattle.std.proofs.lemmas.List.{length-map}
 use Rattle.std.proofs.lemmas.List.Concat.{flat_map-cons}
-use Rattle.slang_values.specs.Value.{ValueType}
-use Rattle.slang_values.specs.Tree.{listed, sequence_of, record_of, tree_list}
-use Rattle.program_trees.specs.Claims.{ClaimTree, ProofStepTree, block}
-use Rattle.program_trees.specs.Legs.{proof}
-use Rattle.key_rules.specs.Writing.{number_bytes, list_bytes, type_bytes, claim_bytes, parts_bytes, step_list, step_bytes, steps_bytes, item_bytes, encode}
+use Rattle.slang_values.specs.Tree.{tree_list}
+use Rattle.key_rules.specs.Writing.{number_bytes, list_bytes, type_bytes, parts_bytes, step_list, steps_bytes, item_bytes, encode}
 use Rattle.lk_claims.specs.declared.claim.Claim.{Claim}
 use Rattle.lk_claims.specs.declared.step.ProofStep.{ProofStep}
 use Rattle.lk_claims.specs.declared.ty.Ty.{Ty}
-use Rattle.lk_claims.specs.Claim.{value_type, claim_tree, claim_trees}
-use Rattle.lk_claims.specs.Step.{step_tree, step_trees}
+use Rattle.lk_claims.specs.Claim.{value_type, claim_trees}
+use Rattle.lk_claims.specs.Step.{step_trees}
 use Rattle.lk_programs.specs.declared.leg.Item.{Item}
 use Rattle.lk_programs.specs.declared.leg.Leg.{Leg}
 use Rattle.lk_programs.specs.LegData.{item_tree, leg_tree}

@@ -4,10 +4,12 @@
 mod bytes;
 mod claims;
 mod codes;
+mod hashes;
 mod legs;
 mod steps;
 mod types;
 
+pub use hashes::digest;
 pub use legs::encode;
 
 /// Want of memory. A list that is longer than a key can say is refused alike.

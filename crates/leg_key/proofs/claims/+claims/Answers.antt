@@ -1,4 +1,4 @@
-use Rattle.std.proofs.Common.{[], ◌∷◌, ◌++◌}
+use Rattle.std.proofs.Common.{[], ◌∷◌}
 use Rattle.std.proofs.lemmas.Result.{on_ok_weaker}
 use Rattle.key_rules.specs.Writing.{number_bytes, list_bytes}
 use Rattle.leg_key.specs.Parts.{type_key, claim_key}
