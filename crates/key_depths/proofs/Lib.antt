@@ -1,0 +1,4 @@
+pub mod Claims
+pub mod Steps
+pub mod Heights
+pub mod Keys
