@@ -64,7 +64,7 @@ abbrev AreAmongNames : List (List ℕ) → List DeclTree → Type 0
 AreAmongNames texts before =
     (q : List ℕ) → is_member bytes_eq (map (λ name. name.text) (filter_map name_of before)) q ≡ false → is_member bytes_eq texts q ≡ false
 
-names_more : (before : List DeclTree) (decl : DeclTree) (q : List ℕ) →
+pub names_more : (before : List DeclTree) (decl : DeclTree) (q : List ℕ) →
     is_member bytes_eq (map (λ name. name.text) (filter_map name_of (before ++ decl ∷ []))) q
     ≡ (is_member bytes_eq (map (λ name. name.text) (filter_map name_of before)) q
     || is_member bytes_eq (map (λ name. name.text) (filter_map name_of (decl ∷ []))) q)

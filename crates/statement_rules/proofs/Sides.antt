@@ -44,7 +44,7 @@ new_from scope written h = ap (λ b. unless (not b) (duplicate_name written.plac
 pub new_to : (scope : Scope) (written : Name) → new_name_faults scope written ≡ [] → IsNew scope written
 new_to scope written h = unless_not (is_known scope written.text) (duplicate_name written.place) h
 
-against_from : (t : ValueType) (part : Judged) → part.faults ≡ [] → part.type ≡ Some t → faults_against t part ≡ []
+pub against_from : (t : ValueType) (part : Judged) → part.faults ≡ [] → part.type ≡ Some t → faults_against t part ≡ []
 against_from t part none typed =
     nil_both part.faults (cond (is_some part.type) (expects t part) []) none
     (ap (λ b. cond b (expects t part) []) (ap is_some typed) ∙ expects_from t part typed)
@@ -200,14 +200,14 @@ right_fits scope fine tree t h =
 
 -- ---- declarations with a value
 
-unit_to : (t : ValueType) (place : Place) → unit_faults (Some t) place ≡ [] → IsNotUnit t
+pub unit_to : (t : ValueType) (place : Place) → unit_faults (Some t) place ≡ [] → IsNotUnit t
 unit_to unit_type place h = one_is_none h
 unit_to number_type place h = tt
 unit_to truth_type place h = tt
 unit_to (sequence_type t) place h = tt
 unit_to (record_type n) place h = tt
 
-unit_from : (t : ValueType) (place : Place) → IsNotUnit t → (unit_faults (Some t) place ≡ []) × (any_but_unit (Some t) ≡ Some t)
+pub unit_from : (t : ValueType) (place : Place) → IsNotUnit t → (unit_faults (Some t) place ≡ []) × (any_but_unit (Some t) ≡ Some t)
 unit_from unit_type place h = absurd h
 unit_from number_type place h = (refl, refl)
 unit_from truth_type place h = (refl, refl)
@@ -264,7 +264,7 @@ declared_from scope fine written ty tree h =
 
 -- ---- names that are modified
 
-distinct_new : {K : Type 0} (eq : K → K → Bool) → ((a b : K) → eq a b ≡ eq b a) → (before xs : List K) →
+pub distinct_new : {K : Type 0} (eq : K → K → Bool) → ((a b : K) → eq a b ≡ eq b a) → (before xs : List K) →
     AllByRecursion (λ x. is_member eq before x ≡ false) xs → IsDistinct eq xs → AreNew eq before xs
 unfolding IsDistinct
 distinct_new {K = K} eq flip before [] none apart = tt
@@ -275,7 +275,7 @@ distinct_new {K = K} eq flip before (x ∷ xs) none apart = (none.0, distinct_ne
     more [] h k = tt
     more (y ∷ ys) h k = (or_from (eq y x) (list_any (eq y) before) (flip y x ∙ k.0) h.0, more ys h.1 k.1)
 
-none_before : {K : Type 0} (eq : K → K → Bool) (xs : List K) → AllByRecursion (λ x. is_member eq [] x ≡ false) xs
+pub none_before : {K : Type 0} (eq : K → K → Bool) (xs : List K) → AllByRecursion (λ x. is_member eq [] x ≡ false) xs
 none_before eq [] = tt
 none_before eq (x ∷ xs) = (refl, none_before eq xs)
 

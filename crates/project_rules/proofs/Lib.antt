@@ -1,0 +1,4 @@
+pub mod Constants
+pub mod Methods
+pub mod Spaces
+pub mod Projects
