@@ -1,0 +1,4 @@
+pub mod Members
+pub mod Closed
+pub mod FoundTypes
+pub mod Walks
