@@ -35,7 +35,7 @@ NumbersStandForPrograms =
     (program : ProgramTree Variable) (node_files : List ℕ) (files : ℕ) → IsTypedProgram program node_files files →
     with_kinds (numbered_program program) ≡ program
 
--- The program of a project without faults, over numbers, is well typed.
+-- The program of a project without faults, none of whose declarations is too high, is well typed over numbers.
 abbrev pub NumberedProjectsAreTyped : Type 0
 NumberedProjectsAreTyped =
     (files : List FileTree) → first_faults files ≡ [] → AllByRecursion IsLowDecl (declarations files) →

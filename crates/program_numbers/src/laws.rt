@@ -5,7 +5,7 @@ pub fn numbers_stand_for_programs()
     ensures { NumbersStandForPrograms }
 {}
 
-/// The program of a project without faults, over numbers, is well typed.
+/// The program of a project without faults is well typed over numbers, where no expression is too high.
 pub fn numbered_projects_are_typed()
     ensures { NumberedProjectsAreTyped }
 {}

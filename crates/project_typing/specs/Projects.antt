@@ -26,7 +26,7 @@ IsLowDecl (global_decl decl) = const_height decl.init ≤ 1000
 IsLowDecl (record_decl decl) = ⊤
 IsLowDecl (method_decl decl) = IsLowMethod decl
 
--- Where no file of a project has a fault, its typed program is well typed, as the type of typed programs keeps it.
+-- Where no file of a project has a fault and no declaration is too high, the typed program is well typed, as the type of typed programs keeps it.
 abbrev pub ProjectsAreTyped : Type 0
 ProjectsAreTyped =
     (files : List FileTree) → first_faults files ≡ [] → AllByRecursion IsLowDecl (declarations files) →

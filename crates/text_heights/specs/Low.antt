@@ -12,7 +12,8 @@ use Rattle.typed_texts.specs.Claims.{claim_of_tree}
 use Rattle.typed_texts.specs.Values.{value_of_tree, constant_of_tree}
 use Rattle.text_heights.specs.Heights.{text_height, const_height}
 
--- Of a text within the weights that a text may have no expression is higher than 400, and no block stands in 200 others.
+-- How deep a text nests bounds how many blocks of a proof stand one inside another, and does not bound how high its expressions are: behind
+-- each bracket that is closed more operators may follow. So this is a condition of its own.
 abbrev pub IsLow : ExprTree → Type 0
 IsLow tree = text_height tree ≤ 1000
 
