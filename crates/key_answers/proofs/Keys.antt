@@ -1,6 +1,7 @@
 -- No two legs have one key, so no key has two answers.
 use Rattle.std.proofs.Common.{◌≡◌, ℕ, List, [], ◌∷◌, Option, cond, refl, sym, ap, ◌∙◌}
 use Rattle.std.specs.Prelude.{nat_lt}
+use Rattle.std.specs.Option.{option_map_or}
 use Rattle.validity.specs.Validity.{SequentTree}
 use Rattle.deduction_rules.specs.Step.{StepTrees}
 use Rattle.program_trees.specs.declared.answer.Reason.{Reason}
@@ -12,14 +13,19 @@ use Rattle.leg_rules.specs.Legs.{Items, legs, leg_count}
 use Rattle.leg_rules.specs.Numbering.{leg_tree}
 use Rattle.leg_rules.specs.Answers.{Verdict, many_legs, leg_limit, leg_answer, at_item, first_leg}
 use Rattle.key_rules.specs.Writing.{encode}
-use Rattle.key_rules.proofs.Keys.{keys_tell_legs_apart}
+use Rattle.key_rules.specs.Reading.{decode}
+use Rattle.key_rules.proofs.Keys.{keys_are_read, keys_tell_legs_apart}
 use Rattle.key_answers.specs.Answers.{AnswersKeys, HaveKeys, at_its_node, first_by_keys}
-use Rattle.key_answers.specs.Laws.{KeysHaveOneAnswer, VerdictsAreThoseOfKeys}
+use Rattle.key_answers.specs.Laws.{KeysHaveOneAnswer, KeysAreAnswered, VerdictsAreThoseOfKeys}
 
 pub keys_have_one_answer : KeysHaveOneAnswer
 keys_have_one_answer closing accepting key a b h k =
     let same = keys_tell_legs_apart h.leg k.leg h.is_key.fits k.is_key.fits (h.is_key.written ∙ sym k.is_key.written) in
     sym h.answered ∙ ap (leg_answer closing accepting) same ∙ k.answered
+
+pub keys_are_answered : KeysAreAnswered
+keys_are_answered closing accepting other key given h =
+    ap (λ o. option_map_or (leg_answer closing accepting) o other) (ap decode (sym h.is_key.written) ∙ keys_are_read h.leg h.is_key.fits) ∙ h.answered
 
 module _ (closing : SequentTree → Option Reason) (accepting : SequentTree → StepTrees → Option ℕ) (answer : List ℕ → Answer)
     (right : AnswersKeys closing accepting answer) (program : ProgramTree Variable) (method : MethodTree Variable) where

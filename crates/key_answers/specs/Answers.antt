@@ -1,6 +1,7 @@
 -- Answers to keys, and the verdict by them.
 use Rattle.std.specs.Prelude.{◌≡◌, ℕ, nat_lt, List, [], ◌∷◌, map, slice_index_or, Option, if◌then◌else◌}
 use Rattle.std.specs.List.{AllByRecursion}
+use Rattle.std.specs.Option.{option_map_or}
 use Rattle.validity.specs.Validity.{SequentTree}
 use Rattle.deduction_rules.specs.Step.{StepTrees}
 use Rattle.program_trees.specs.declared.answer.Reason.{Reason}
@@ -15,6 +16,7 @@ use Rattle.leg_rules.specs.Answers.{Verdict, verified, unproved, many_legs, leg_
 use Rattle.leg_forms.specs.WellFormed.{IsWellFormedLeg}
 use Rattle.key_rules.specs.Writing.{encode}
 use Rattle.key_rules.specs.Fits.{FitsLeg}
+use Rattle.key_rules.specs.Reading.{decode}
 use Rattle.key_rules.specs.Laws.{IsKeyOf}
 
 -- `closing` tells why a sequent is not closed, and `accepting` which step of a proof is refused, where it is.
@@ -28,6 +30,10 @@ module _ (closing : SequentTree → Option Reason) (accepting : SequentTree → 
   -- whatever gives each key of a leg its answer, worked out or kept from before
   abbrev pub AnswersKeys : (List ℕ → Answer) → Type 0
   AnswersKeys answer = (key : List ℕ) (given : Answer) → IsAnswerTo key given → answer key ≡ given
+
+  -- The answer to a key by reading it. Bytes that are no key have no answer, and are given another.
+  abbrev pub answer_or : Answer → List ℕ → Answer
+  answer_or other key = option_map_or (leg_answer closing accepting) (decode key) other
 
 -- the legs of the method have keys
 abbrev pub HaveKeys : ProgramTree Variable → MethodTree Variable → List Items → Type 0
