@@ -1,0 +1,2 @@
+pub mod Expects
+pub mod Heads
