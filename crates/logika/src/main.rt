@@ -7,9 +7,27 @@ use logika_cli::{end_without_memory, logika_main};
 use std::io::ErrorKind;
 use std::process::ExitCode;
 use std::rt::Env;
+use std::thread::Builder;
 use std::{env, io};
 
+/// The stack on which the command runs, in bytes. A tree of a text can be 20,000 nodes high, and functions walk it part by
+/// part.
+const STACK: usize = 1 << 28;
+
 fn main(rt: HostRuntime) -> ExitCode {
+    let code = match Builder::new()
+        .stack_size(STACK)
+        .spawn(&rt, move || command(rt))
+    {
+        Ok(thread) => thread.join(&rt),
+        // No thread can be made, so the command runs on this one.
+        Err(_) => command(rt),
+    };
+    ExitCode::from(code)
+}
+
+/// Runs the command, and answers its status.
+fn command(rt: HostRuntime) -> u8 {
     let alloc = rt.alloc();
     let mut source = StdSource::new(rt.stdin());
     let mut out = StdSink::new(rt.stdout());
@@ -22,7 +40,7 @@ fn main(rt: HostRuntime) -> ExitCode {
         }
         Err(_) => end_without_memory(&mut journal),
     };
-    ExitCode::from(status.code)
+    status.code
 }
 
 /// The words of the command line, without the program's name.
