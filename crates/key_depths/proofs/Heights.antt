@@ -11,7 +11,8 @@ use Rattle.program_trees.specs.Legs.{ItemTree, assume, check, set, fresh, proof,
 use Rattle.validity.specs.Bind.{bind_all}
 use Rattle.leg_rules.specs.Numbering.{Appearance, front_appears, claim_appears, parts_appear, step_appears, steps_appear, item_appears}
 use Rattle.leg_forms.specs.WellFormed.{is_element_type, is_value_type, leg_name, is_front, IsLow, IsWellFormedStep, AreWellFormedSteps, IsWellFormedItem}
-use Rattle.key_depths.specs.Depths.{type_depth, front_depth, claim_depth, parts_depth, step_depth, steps_depth, item_depth, depth_limit}
+use Rattle.key_rules.specs.Depths.{type_depth, front_depth, claim_depth, parts_depth, step_depth, steps_depth, item_depth}
+use Rattle.key_depths.specs.Depths.{depth_limit}
 use Rattle.key_depths.specs.Laws.{WellFormedLegsAreWithin}
 
 false_true : false ≡ true → ⊥

@@ -1,4 +1,2 @@
-pub mod Claims
-pub mod Steps
 pub mod Heights
 pub mod Keys

@@ -6,7 +6,8 @@ use Rattle.key_rules.specs.Writing.{encode}
 use Rattle.key_rules.specs.Fits.{FitsLeg}
 use Rattle.key_rules.specs.Readers.{AreBytes}
 use Rattle.key_rules.specs.Laws.{IsKeyOf}
-use Rattle.key_depths.specs.Depths.{IsWithin, decode_within, depth_limit}
+use Rattle.key_rules.specs.Depths.{IsWithin}
+use Rattle.key_depths.specs.Depths.{decode_within, depth_limit}
 
 -- The key of a leg is read by readers that go as deep as the leg is.
 abbrev pub KeysAreReadWithin : Type 0

@@ -1,20 +1,21 @@
 -- What is written is read, and only that: of whole legs.
 use Rattle.std.specs.Prelude.{nat_eq}
-use Rattle.std.proofs.Common.{◌≡◌, Bool, true, false, cond, ℕ, ◌+◌, ◌≤◌, List, [], ◌∷◌, ◌++◌, length, length-append, append_assoc, append-nil, Option, Some, None, refl, sym, ap, ◌∙◌, arith}
-use Rattle.std.specs.List.{AllByRecursion, flat_map}
-use Rattle.std.proofs.lemmas.List.Concat.{flat_map-cons}
+use Rattle.std.proofs.Common.{◌≡◌, Bool, true, false, cond, ℕ, ◌≤◌, List, [], ◌∷◌, ◌++◌, length, append_assoc, append-nil, Option, Some, None, refl, sym, ap, ◌∙◌, arith}
+use Rattle.std.specs.List.{AllByRecursion}
 use Rattle.std.proofs.lemmas.Option.{same_Some}
 use Rattle.slang_values.specs.Value.{ValueType}
 use Rattle.program_trees.specs.Legs.{LegTree}
 use Rattle.key_rules.specs.Codes
-use Rattle.key_rules.specs.Writing.{number_bytes, list_bytes, type_bytes, item_bytes, encode}
+use Rattle.key_rules.specs.Writing.{list_bytes, type_bytes, item_bytes, encode}
 use Rattle.key_rules.specs.Fits.{FitsList, FitsType, FitsItem, FitsLeg}
+use Rattle.key_rules.specs.Depths.{type_depth, item_depth, IsWithin}
 use Rattle.key_rules.specs.Readers.{Reader, given, ◌>>=◌, read_coded, read_list}
 use Rattle.key_rules.specs.Reading.{read_type, read_item, itself, read_leg, whole, all_of, decode}
 use Rattle.key_rules.specs.Laws.{KeysAreRead, OnlyKeysAreRead, KeysTellLegsApart, KeysOfWellFormedLegs}
 use Rattle.key_rules.proofs.Readers.{bind, unbind, none_some, TakesOnly, ReadsBack, given_back, coded_back, coded_takes, IsFound, list_back, list_takes}
-use Rattle.key_rules.proofs.Claims.{Within, type_long, type_back, type_takes}
+use Rattle.key_rules.proofs.Claims.{Below, type_long, type_back, type_takes}
 use Rattle.key_rules.proofs.Steps.{item_long, item_back, item_takes}
+use Rattle.key_rules.proofs.Lengths.{keys_are_long}
 
 profile_alone : (n : ℕ) → IsFound itself (Codes.profile ∷ []) n → n ≡ Codes.profile
 profile_alone n h = by (nat_eq 1 n) h where
@@ -22,27 +23,11 @@ profile_alone n h = by (nat_eq 1 n) h where
   by true k = sym (same_Some 1 n k)
   by false k = absurd (none_some n k)
 
--- ---- lists whose members are no longer than that
-
-all_map : {A : Type 0} {P Q : A → Type 0} → ((a : A) → P a → Q a) → (xs : List A) → AllByRecursion P xs → AllByRecursion Q xs
-all_map f [] h = tt
-all_map f (x ∷ xs) h = (f x h.0, all_map f xs h.1)
-
-members_within : {A : Type 0} (write : A → List ℕ) (fits : A → Type 0) (depth : ℕ) (xs : List A) → AllByRecursion fits xs
-    → length (flat_map write xs) ≤ depth → AllByRecursion (Within write fits depth) xs
-members_within write fits depth [] h short = tt
-members_within write fits depth (x ∷ xs) h short =
-    let split : length (flat_map write (x ∷ xs)) ≡ length (write x) + length (flat_map write xs) =
-    ap length (flat_map-cons write x xs) ∙ length-append (write x) (flat_map write xs) in (
-      record { fit = h.0; short = omega (arith, split, short) },
-      members_within write fits depth xs h.1 (omega (arith, split, short)),
-    )
-
-list_within : {A : Type 0} (write : A → List ℕ) (fits : A → Type 0) (depth : ℕ) (xs : List A) → FitsList fits xs → length (list_bytes write xs) ≤ depth
-    → FitsList (Within write fits depth) xs
-list_within write fits depth xs h short =
-    let both = length-append (number_bytes (length xs)) (flat_map write xs) in
-    (h.0, members_within write fits depth xs h.1 (omega (arith, both, short)))
+-- what fits and what is low, together
+both : {A : Type 0} (measure : A → ℕ) (fits : A → Type 0) (depth : ℕ) (xs : List A) → AllByRecursion fits xs → AllByRecursion (λ x. measure x ≤ depth) xs
+    → AllByRecursion (Below measure fits depth) xs
+both measure fits depth [] h low = tt
+both measure fits depth (x ∷ xs) h low = (record { fit = h.0; low = low.0 }, both measure fits depth xs h.1 low.1)
 
 -- the types of a record's fields
 abbrev fields_bytes : List ValueType → List ℕ
@@ -53,7 +38,7 @@ fields_long types = omega arith
 
 module _ (depth : ℕ) where
   abbrev short_type : ValueType → Type 0
-  short_type t = Within type_bytes FitsType depth t
+  short_type t = Below type_depth FitsType depth t
 
   types_back : ReadsBack fields_bytes (FitsList short_type) (read_list (read_type depth))
   types_back = list_back type_bytes short_type (read_type depth) (type_back depth) (λ t h. type_long t h.fit)
@@ -61,14 +46,14 @@ module _ (depth : ℕ) where
   records_back : ReadsBack (list_bytes fields_bytes) (FitsList (FitsList short_type)) (read_list (read_list (read_type depth)))
   records_back = list_back fields_bytes (FitsList short_type) (read_list (read_type depth)) types_back (λ types h. fields_long types)
 
-  items_back : ReadsBack (list_bytes item_bytes) (FitsList (Within item_bytes FitsItem depth)) (read_list (read_item depth))
-  items_back = list_back item_bytes (Within item_bytes FitsItem depth) (read_item depth) (item_back depth) (λ item h. item_long item)
+  items_back : ReadsBack (list_bytes item_bytes) (FitsList (Below item_depth FitsItem depth)) (read_list (read_item depth))
+  items_back = list_back item_bytes (Below item_depth FitsItem depth) (read_item depth) (item_back depth) (λ item h. item_long item)
 
-  records_within : (records : List (List ValueType)) → FitsList (FitsList FitsType) records → length (list_bytes fields_bytes records) ≤ depth
-      → FitsList (FitsList short_type) records
-  records_within records h short =
-      let within = list_within fields_bytes (FitsList FitsType) depth records h short in
-      (within.0, all_map (λ types w. list_within type_bytes FitsType depth types w.fit w.short) records within.1)
+  records_below : (records : List (List ValueType)) → AllByRecursion (FitsList FitsType) records
+      → AllByRecursion (AllByRecursion (λ t. type_depth t ≤ depth)) records → AllByRecursion (FitsList short_type) records
+  records_below [] h low = tt
+  records_below (types ∷ records) h low =
+      ((h.0.0, both type_depth FitsType depth types h.0.1 low.0), records_below records h.1 low.1)
 
   -- ---- legs
 
@@ -81,29 +66,23 @@ module _ (depth : ℕ) where
   abbrev after_profile : ℕ → Reader LegTree
   after_profile first = read_list (read_list (read_type depth)) >>= after_records
 
-  leg_back : ReadsBack encode (Within encode FitsLeg depth) (read_leg depth)
-  leg_back leg rest h =
+  pub leg_back : (leg : LegTree) (rest : List ℕ) → FitsLeg leg → IsWithin depth leg → read_leg depth (encode leg ++ rest) ≡ Some (leg, rest)
+  leg_back leg rest fits within =
       let a = list_bytes fields_bytes leg.records in
       let b = list_bytes type_bytes leg.variables in
       let c = list_bytes item_bytes leg.items in
-      let outer = length-append a (b ++ c) in
-      let inner = length-append b c in
-      let short = h.short in
-      let short_a : length a ≤ depth = omega (arith, outer, inner, short) in
-      let short_b : length b ≤ depth = omega (arith, outer, inner, short) in
-      let short_c : length c ≤ depth = omega (arith, outer, inner, short) in
       let apart : (a ++ (b ++ c)) ++ rest ≡ a ++ (b ++ (c ++ rest)) =
       append_assoc a (b ++ c) rest ∙ ap (λ l. a ++ l) (append_assoc b c rest) in
       coded_back itself (Codes.profile ∷ []) Codes.profile after_profile ((a ++ (b ++ c)) ++ rest) _ refl
       (ap (after_profile Codes.profile) apart
       ∙ bind (read_list (read_list (read_type depth))) after_records (a ++ (b ++ (c ++ rest))) leg.records (b ++ (c ++ rest)) _
-      (records_back leg.records (b ++ (c ++ rest)) (records_within leg.records h.fit.records short_a))
+      (records_back leg.records (b ++ (c ++ rest)) (fits.records.0, records_below leg.records fits.records.1 within.records))
       (bind (read_list (read_type depth)) (after_variables leg.records) (b ++ (c ++ rest)) leg.variables (c ++ rest) _
-      (types_back leg.variables (c ++ rest) (list_within type_bytes FitsType depth leg.variables h.fit.variables short_b))
+      (types_back leg.variables (c ++ rest) (fits.variables.0, both type_depth FitsType depth leg.variables fits.variables.1 within.variables))
       (bind (read_list (read_item depth)) (λ items. given (record { records = leg.records; variables = leg.variables; items = items })) (c ++ rest)
-      leg.items rest _ (items_back leg.items rest (list_within item_bytes FitsItem depth leg.items h.fit.items short_c)) refl)))
+      leg.items rest _ (items_back leg.items rest (fits.items.0, both item_depth FitsItem depth leg.items fits.items.1 within.items)) refl)))
 
-  leg_takes : TakesOnly encode FitsLeg (read_leg depth)
+  pub leg_takes : TakesOnly encode FitsLeg (read_leg depth)
   leg_takes bytes leg rest are h =
       let s = unbind (read_coded itself (Codes.profile ∷ [])) after_profile bytes leg rest h in
       let o = coded_takes itself (Codes.profile ∷ []) bytes s.value s.middle are s.first in
@@ -133,17 +112,17 @@ pub keys_are_read : KeysAreRead
 keys_are_read leg h =
     let depth = length (encode leg) in
     ap (λ l. all_of (read_leg depth l)) (sym (append-nil (encode leg)))
-    ∙ ap all_of (leg_back depth leg [] (record { fit = h; short = omega arith }))
+    ∙ ap all_of (leg_back depth leg [] h (keys_are_long leg h))
 
 -- this was read, and nothing is left
-abbrev IsAll : {A : Type 0} → Option (A × List ℕ) → A → Type 0
+abbrev pub IsAll : {A : Type 0} → Option (A × List ℕ) → A → Type 0
 IsAll o a = o ≡ Some (a, [])
 
 whole_is : {A : Type 0} (a b : A) (rest : List ℕ) → whole a rest ≡ Some b → IsAll (Some (a, rest)) b
 whole_is a b [] h = ap (λ x. Some (x, [])) (same_Some a b h)
 whole_is a b (first ∷ rest) h = absurd (none_some b h)
 
-all_is : {A : Type 0} (o : Option (A × List ℕ)) (a : A) → all_of o ≡ Some a → IsAll o a
+pub all_is : {A : Type 0} (o : Option (A × List ℕ)) (a : A) → all_of o ≡ Some a → IsAll o a
 all_is None a h = absurd (none_some a h)
 all_is (Some p) a h = whole_is p.0 a p.1 h
 

@@ -1,5 +1,5 @@
 -- What is written is read, and only that: of steps of proofs, and items.
-use Rattle.std.proofs.Common.{◌≡◌, ℕ, zero, suc, ◌≤◌, Bool, true, false, List, [], ◌∷◌, ◌++◌, length, length-append, append_assoc, Some, refl, sym, ap, ◌∙◌, subst, arith}
+use Rattle.std.proofs.Common.{◌≡◌, ℕ, zero, suc, ◌≤◌, Bool, true, false, List, [], ◌∷◌, ◌++◌, length, append_assoc, Some, refl, sym, ap, ◌∙◌, subst, arith}
 use Rattle.std.specs.List.{AllByRecursion, flat_map}
 use Rattle.std.proofs.lemmas.List.Concat.{flat_map-cons}
 use Rattle.program_trees.specs.declared.answer.Kind.{Kind}
@@ -11,10 +11,11 @@ use Rattle.key_rules.specs.Codes
 use Rattle.key_rules.specs.Codes.{coded}
 use Rattle.key_rules.specs.Writing.{number_bytes, list_bytes, claim_bytes, step_list, step_bytes, steps_bytes, item_bytes}
 use Rattle.key_rules.specs.Fits.{FitsNumber, FitsList, FitsClaim, FitsStep, FitSteps, FitsItem}
+use Rattle.key_rules.specs.Depths.{claim_depth, step_depth, steps_depth, item_depth}
 use Rattle.key_rules.specs.Readers.{AreBytes, Reader, given, ◌>>=◌, read_byte, read_number, read_coded, read_list}
 use Rattle.key_rules.specs.Reading.{read_claim, steps_of, step_behind, read_step, item_behind, read_item}
 use Rattle.key_rules.proofs.Readers.{bind, unbind, none_some, Takes, TakesOnly, ReadsBack, given_back, byte_takes, number_back, number_takes, coded_back, coded_takes, list_back, list_takes}
-use Rattle.key_rules.proofs.Claims.{Within, Behind, headed, claim_back, claim_takes}
+use Rattle.key_rules.proofs.Claims.{Below, Behind, headed, claim_back, claim_takes}
 
 pub number_long : (n : ℕ) → FitsNumber n → 1 ≤ length (number_bytes n)
 number_long n h = omega arith
@@ -46,14 +47,11 @@ counted steps = number_bytes (length (step_list steps)) ++ steps_bytes steps
 steps_written : (steps : ProofStepTrees ℕ) → list_bytes step_bytes (step_list steps) ≡ counted steps
 steps_written steps = ap (λ l. number_bytes (length (step_list steps)) ++ l) (sym (steps_flat steps))
 
-steps_within : (depth : ℕ) (steps : ProofStepTrees ℕ) → FitSteps steps → length (steps_bytes steps) ≤ depth
-    → AllByRecursion (Within step_bytes FitsStep depth) (step_list steps)
-steps_within depth no_steps h short = tt
-steps_within depth (step_then step steps) h short =
-    let both = length-append (step_bytes step) (steps_bytes steps) in (
-      record { fit = h.0; short = omega (arith, both, short) },
-      steps_within depth steps h.1 (omega (arith, both, short)),
-    )
+steps_below : (depth : ℕ) (steps : ProofStepTrees ℕ) → FitSteps steps → steps_depth steps ≤ depth
+    → AllByRecursion (Below step_depth FitsStep depth) (step_list steps)
+steps_below depth no_steps h low = tt
+steps_below depth (step_then step steps) h low =
+    (record { fit = h.0; low = omega (arith, low) }, steps_below depth steps h.1 (omega (arith, low)))
 
 steps_fit : (steps : List (ProofStepTree ℕ)) → AllByRecursion FitsStep steps → FitSteps (steps_of steps)
 steps_fit [] h = tt
@@ -69,15 +67,15 @@ flag_found false = refl
 
 -- the steps of a list, which are all that is left to read of what is made of them
 module _ {A : Type 0} (depth : ℕ) (make : ProofStepTrees ℕ → A) where
-  steps_back : ReadsBack step_bytes (Within step_bytes FitsStep depth) (read_step depth) → (steps : ProofStepTrees ℕ) (rest : List ℕ)
-      → FitsNumber (length (step_list steps)) → FitSteps steps → length (steps_bytes steps) ≤ depth
+  steps_back : ReadsBack step_bytes (Below step_depth FitsStep depth) (read_step depth) → (steps : ProofStepTrees ℕ) (rest : List ℕ)
+      → FitsNumber (length (step_list steps)) → FitSteps steps → steps_depth steps ≤ depth
       → (read_list (read_step depth) >>= λ steps. given (make (steps_of steps))) (counted steps ++ rest) ≡ Some (make steps, rest)
-  steps_back inner steps rest few fits short =
+  steps_back inner steps rest few fits low =
       let next = λ (steps : List (ProofStepTree ℕ)). given (make (steps_of steps)) in
       ap (λ l. (read_list (read_step depth) >>= next) (l ++ rest)) (sym (steps_written steps))
       ∙ bind (read_list (read_step depth)) next (list_bytes step_bytes (step_list steps) ++ rest) (step_list steps) rest _
-      (list_back step_bytes (Within step_bytes FitsStep depth) (read_step depth) inner (λ step h. step_long step) (step_list steps) rest
-      (few, steps_within depth steps fits short))
+      (list_back step_bytes (Below step_depth FitsStep depth) (read_step depth) inner (λ step h. step_long step) (step_list steps) rest
+      (few, steps_below depth steps fits low))
       (ap (λ steps. Some (make steps, rest)) (steps_same steps))
 
   -- the steps that were read
@@ -123,13 +121,10 @@ module _ (depth : ℕ) where
   after_label label = claim >>= λ c. after_claim label c
 
   line_back : (label : ℕ) (c : ClaimTree ℕ) (rule : ℕ) (cites rest : List ℕ) → FitsStep (line label c rule cites)
-      → length (step_bytes (line label c rule cites)) ≤ suc depth → read_step (suc depth) (step_bytes (line label c rule cites) ++ rest)
+      → claim_depth c ≤ depth → read_step (suc depth) (step_bytes (line label c rule cites) ++ rest)
       ≡ Some (line label c rule cites, rest)
-  line_back label c rule cites rest h short =
+  line_back label c rule cites rest h low =
       let last = list_bytes number_bytes cites in
-      let inner = length-append (claim_bytes c) (rule ∷ last) in
-      let outer = length-append (number_bytes label) (claim_bytes c ++ (rule ∷ last)) in
-      let low : length (claim_bytes c) ≤ depth = omega (arith, inner, outer, short) in
       let apart : (number_bytes label ++ (claim_bytes c ++ (rule ∷ last))) ++ rest ≡ number_bytes label ++ (claim_bytes c ++ (rule ∷ (last ++ rest))) =
       append_assoc (number_bytes label) (claim_bytes c ++ (rule ∷ last)) rest
       ∙ ap (λ l. number_bytes label ++ l) (append_assoc (claim_bytes c) (rule ∷ last) rest) in
@@ -139,7 +134,7 @@ module _ (depth : ℕ) where
       ∙ bind read_number after_label (number_bytes label ++ (claim_bytes c ++ (rule ∷ (last ++ rest)))) label (claim_bytes c ++ (rule ∷ (last ++ rest))) _
       (number_back label (claim_bytes c ++ (rule ∷ (last ++ rest))) h.0)
       (bind claim (after_claim label) (claim_bytes c ++ (rule ∷ (last ++ rest))) c (rule ∷ (last ++ rest)) _
-      (claim_back depth c (rule ∷ (last ++ rest)) (record { fit = h.1; short = low }))
+      (claim_back depth c (rule ∷ (last ++ rest)) (record { fit = h.1; low = low }))
       (bind read_byte (after_rule label c) (rule ∷ (last ++ rest)) rule (last ++ rest) _ refl
       (bind (read_list read_number) (λ cites. given (line label c rule cites)) (last ++ rest) cites rest _ (numbers_back cites rest h.3) refl))))
 
@@ -155,20 +150,14 @@ module _ (depth : ℕ) where
   abbrev after_block : ℕ → Reader (ProofStepTree ℕ)
   after_block label = read_coded Codes.flag_code Codes.flags >>= λ flag. after_flag label flag
 
-  block_back : ReadsBack step_bytes (Within step_bytes FitsStep depth) (read_step depth)
+  block_back : ReadsBack step_bytes (Below step_depth FitsStep depth) (read_step depth)
       → (label : ℕ) (flag : Bool) (assumed : ℕ) (c : ClaimTree ℕ) (steps : ProofStepTrees ℕ) (rest : List ℕ) → FitsStep (block label flag assumed c steps)
-      → length (step_bytes (block label flag assumed c steps)) ≤ suc depth
+      → claim_depth c ≤ depth → steps_depth steps ≤ depth
       → read_step (suc depth) (step_bytes (block label flag assumed c steps) ++ rest) ≡ Some (block label flag assumed c steps, rest)
-  block_back inner label flag assumed c steps rest h short =
+  block_back inner label flag assumed c steps rest h low low_steps =
       let last = counted steps in
       let end = claim_bytes c ++ last in
       let most = number_bytes assumed ++ end in
-      let one = length-append (number_bytes (length (step_list steps))) (steps_bytes steps) in
-      let two = length-append (claim_bytes c) last in
-      let three = length-append (number_bytes assumed) end in
-      let four = length-append (number_bytes label) (Codes.flag_code flag ∷ most) in
-      let low : length (claim_bytes c) ≤ depth = omega (arith, two, three, four, short) in
-      let short_steps : length (steps_bytes steps) ≤ depth = omega (arith, one, two, three, four, short) in
       let end_apart : end ++ rest ≡ claim_bytes c ++ (last ++ rest) = append_assoc (claim_bytes c) last rest in
       let most_apart : most ++ rest ≡ number_bytes assumed ++ (claim_bytes c ++ (last ++ rest)) =
       append_assoc (number_bytes assumed) end rest ∙ ap (λ l. number_bytes assumed ++ l) end_apart in
@@ -186,13 +175,14 @@ module _ (depth : ℕ) where
       (coded_back Codes.flag_code Codes.flags flag (after_flag label) behind_flag _ (flag_found flag)
       (bind read_number (after_assumed label flag) behind_flag assumed behind_assumed _ (number_back assumed behind_assumed h.1)
       (bind claim (after_assumption label flag assumed) behind_assumed c behind_claim _
-      (claim_back depth c behind_claim (record { fit = h.2; short = low }))
-      (steps_back depth (block label flag assumed c) inner steps rest h.3 h.4 short_steps)))))
+      (claim_back depth c behind_claim (record { fit = h.2; low = low }))
+      (steps_back depth (block label flag assumed c) inner steps rest h.3 h.4 low_steps)))))
 
-  step_more : ReadsBack step_bytes (Within step_bytes FitsStep depth) (read_step depth)
-      → ReadsBack step_bytes (Within step_bytes FitsStep (suc depth)) (read_step (suc depth))
-  step_more inner (line label c rule cites) rest h = line_back label c rule cites rest h.fit h.short
-  step_more inner (block label flag assumed c steps) rest h = block_back inner label flag assumed c steps rest h.fit h.short
+  step_more : ReadsBack step_bytes (Below step_depth FitsStep depth) (read_step depth)
+      → ReadsBack step_bytes (Below step_depth FitsStep (suc depth)) (read_step (suc depth))
+  step_more inner (line label c rule cites) rest h = (let low = h.low in line_back label c rule cites rest h.fit (omega (arith, low)))
+  step_more inner (block label flag assumed c steps) rest h =
+      (let low = h.low in block_back inner label flag assumed c steps rest h.fit (omega (arith, low)) (omega (arith, low)))
 
   abbrev From : List ℕ → ProofStepTree ℕ → List ℕ → Type 0
   From bytes step rest = Takes step_bytes FitsStep bytes step rest
@@ -243,8 +233,12 @@ module _ (depth : ℕ) where
         left = y.left;
       })
 
-pub step_back : (depth : ℕ) → ReadsBack step_bytes (Within step_bytes FitsStep depth) (read_step depth)
-step_back zero step rest h = let long = step_long step in let short = h.short in absurd (omega (arith, long, short))
+step_deep : (step : ProofStepTree ℕ) → 1 ≤ step_depth step
+step_deep (line label claim rule cites) = omega arith
+step_deep (block label has_symbol assumed c steps) = omega arith
+
+pub step_back : (depth : ℕ) → ReadsBack step_bytes (Below step_depth FitsStep depth) (read_step depth)
+step_back zero step rest h = let one = step_deep step in let low = h.low in absurd (omega (arith, one, low))
 step_back (suc depth) step rest h = step_more depth (step_back depth) step rest h
 
 pub step_takes : (depth : ℕ) → TakesOnly step_bytes FitsStep (read_step depth)
@@ -289,38 +283,32 @@ module _ (depth : ℕ) where
   abbrev behind : Codes.ItemHead → Reader (ItemTree ℕ)
   behind = item_behind (read_claim depth) (read_step depth)
 
-  claim_item_back : (make : ClaimTree ℕ → ItemTree ℕ) (c : ClaimTree ℕ) (rest : List ℕ) → FitsClaim c → length (claim_bytes c) ≤ depth
+  claim_item_back : (make : ClaimTree ℕ → ItemTree ℕ) (c : ClaimTree ℕ) (rest : List ℕ) → FitsClaim c → claim_depth c ≤ depth
       → (read_claim depth >>= λ c. given (make c)) (claim_bytes c ++ rest) ≡ Some (make c, rest)
-  claim_item_back make c rest fit short =
-      bind (read_claim depth) (λ c. given (make c)) (claim_bytes c ++ rest) c rest _ (claim_back depth c rest (record { fit = fit; short = short })) refl
+  claim_item_back make c rest fit low =
+      bind (read_claim depth) (λ c. given (make c)) (claim_bytes c ++ rest) c rest _ (claim_back depth c rest (record { fit = fit; low = low })) refl
 
-  pub item_back : ReadsBack item_bytes (Within item_bytes FitsItem depth) (read_item depth)
+  pub item_back : ReadsBack item_bytes (Below item_depth FitsItem depth) (read_item depth)
   item_back (assume c) rest h =
-      let short = h.short in
       coded_back Codes.item_code Codes.item_heads Codes.of_assume behind (claim_bytes c ++ rest) _ refl
-      (claim_item_back (λ c. assume c) c rest h.fit (omega (arith, short)))
+      (claim_item_back (λ c. assume c) c rest h.fit h.low)
   item_back (check kind c) rest h =
-      let short = h.short in
       let next = λ (kind : Kind). read_claim depth >>= λ c. given (check kind c) in
       coded_back Codes.item_code Codes.item_heads Codes.of_check behind (Codes.kind_code kind ∷ (claim_bytes c ++ rest)) _ refl
       (coded_back Codes.kind_code Codes.checked_kinds kind next (claim_bytes c ++ rest) _ (kind_found kind h.fit.0)
-      (claim_item_back (λ c. check kind c) c rest h.fit.1 (omega (arith, short))))
+      (claim_item_back (λ c. check kind c) c rest h.fit.1 h.low))
   item_back (set x c) rest h =
-      let short = h.short in
-      let both = length-append (number_bytes x) (claim_bytes c) in
       let next = λ (x : ℕ). read_claim depth >>= λ c. given (set x c) in
       coded_back Codes.item_code Codes.item_heads Codes.of_set behind ((number_bytes x ++ claim_bytes c) ++ rest) _ refl
       (ap (read_number >>= next) (append_assoc (number_bytes x) (claim_bytes c) rest)
       ∙ bind read_number next (number_bytes x ++ (claim_bytes c ++ rest)) x (claim_bytes c ++ rest) _ (number_back x (claim_bytes c ++ rest) h.fit.0)
-      (claim_item_back (λ c. set x c) c rest h.fit.1 (omega (arith, both, short))))
+      (claim_item_back (λ c. set x c) c rest h.fit.1 h.low))
   item_back (fresh xs) rest h =
       coded_back Codes.item_code Codes.item_heads Codes.of_fresh behind (list_bytes number_bytes xs ++ rest) _ refl
       (bind (read_list read_number) (λ xs. given (fresh xs)) (list_bytes number_bytes xs ++ rest) xs rest _ (numbers_back xs rest h.fit) refl)
   item_back (proof steps) rest h =
-      let short = h.short in
-      let both = length-append (number_bytes (length (step_list steps))) (steps_bytes steps) in
       coded_back Codes.item_code Codes.item_heads Codes.of_proof behind (counted steps ++ rest) _ refl
-      (steps_back depth (λ steps. proof steps) (step_back depth) steps rest h.fit.0 h.fit.1 (omega (arith, both, short)))
+      (steps_back depth (λ steps. proof steps) (step_back depth) steps rest h.fit.0 h.fit.1 h.low)
 
   item_each : (head : Codes.ItemHead) → Behind item_bytes FitsItem Codes.item_code behind head
   item_each Codes.of_assume bytes item rest are h =
