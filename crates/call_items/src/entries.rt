@@ -1,4 +1,5 @@
-ghost use Rattle.std.specs.Prelude.{◌≡◌, [], ◌∷◌, ◌++◌, IfOk, OnOk, if◌then◌else◌};
+ghost use Rattle.std.specs.Prelude.{◌≡◌, ◌<◌, ◌^◌, [], ◌∷◌, ◌++◌, OnOk, if◌then◌else◌};
+ghost use Rattle.std.specs.Result.{OkIff};
 ghost use Rattle.program_trees.specs.Variables.{entry, same_variable};
 ghost use Rattle.leg_rules.specs.Legs.{entry_items};
 ghost use Rattle.leg_rules.specs.Mentions.{some_mention};
@@ -13,14 +14,11 @@ use lk_programs::{NodeNo, Noted};
 use sqlite_items::Items;
 use std::alloc::AllocError;
 
-/// A place in a list as a number.
+/// A place in a list as a number, where there is one.
 pub fn number(count: usize) -> Result<u32, NoMemory>
-    ensures { IfOk result (λ n. n ≡ count) }
+    ensures { OkIff result (count < 2 ^ 32) count }
 {
-    if count > u32::MAX as usize {
-        return Err(AllocError);
-    }
-    Ok(count as u32)
+    u32::try_from(count).map_err(|_| AllocError)
 }
 
 fn scope_of(frame: Frame) -> Scope

@@ -1,4 +1,5 @@
-ghost use Rattle.std.specs.Prelude.{◌≡◌, ◌++◌, ◌∷◌, [], OnOk};
+ghost use Rattle.std.specs.Prelude.{◌≡◌, ◌<◌, ◌^◌, ◌++◌, ◌∷◌, [], length, OnOk};
+ghost use Rattle.std.specs.Result.{OkIff};
 ghost use Rattle.key_rules.specs.Writing.{number_bytes, literal_bytes, list_bytes};
 
 use crate::NoMemory;
@@ -29,14 +30,18 @@ pub fn add_wide_number(number: i128, key: &mut Vec<u8>) -> Result<(), NoMemory>
     Ok(())
 }
 
+/// A length as a number, where there is one.
+fn number(length: usize) -> Result<u32, NoMemory>
+    ensures { OkIff result (length < 2 ^ 32) length }
+{
+    u32::try_from(length).map_err(|_| AllocError)
+}
+
 /// Adds the length of a list at the end of a key.
 pub fn add_length(length: usize, key: &mut Vec<u8>) -> Result<(), NoMemory>
     ensures { OnOk result (key.new.items ≡ key.old.items ++ number_bytes length) }
 {
-    match u32::try_from(length) {
-        Ok(number) => add_number(number, key),
-        Err(_) => Err(AllocError),
-    }
+    add_number(number(length)?, key)
 }
 
 /// Adds a list of numbers at the end of a key.

@@ -1,6 +1,7 @@
 -- The place where a member first stands.
 use Rattle.std.proofs.Common.{◌≡◌, ℕ, zero, suc, ◌+◌, ◌⊎◌, inl, inr, ◌<◌, ◌≤◌, Bool, true, false, cond, List, [], ◌∷◌, map, length, get_or, Some, None, refl, ap, sym, ◌∙◌, arith}
 use Rattle.std.specs.Prelude.{nat_lt, nat_eq, unwrap_or, Result, Ok, Err, IfOk}
+use Rattle.std.specs.Result.{OkIff}
 use Rattle.std.specs.List.{position, position_or_len}
 use Rattle.std.proofs.lemmas.Bool.{cases_lt, lt-ltb, le-ltb}
 use Rattle.std.proofs.lemmas.List.{length-map, get_or-map}
@@ -48,6 +49,11 @@ module _ (xs : List Name) (x : LegName) (d : Name) where
 pub if_ok_map : {X Y : Type 0} (r : Result X Y) (P Q : X → Type 0) → ((x : X) → P x → Q x) → IfOk r P → IfOk r Q
 if_ok_map (Ok x) P Q f h = f x h
 if_ok_map (Err e) P Q f h = h
+
+-- a number that is told exactly is that number
+pub told_value : {X Y : Type 0} (r : Result X Y) (P : Type 0) (v : X) → OkIff r P v → IfOk r (λ x. x ≡ v)
+told_value (Ok x) P v h = h.1
+told_value (Err e) P v h = tt
 
 -- what held below a place and holds at it holds below the next
 pub one_more_record : (xs : List ℕ) (x k : ℕ) → ((j : ℕ) → j < k → nat_eq x (get_or xs j 0) ≡ false) → nat_eq x (get_or xs k 0) ≡ false → (j : ℕ) → j < k + 1 → nat_eq x (get_or xs j 0) ≡ false

@@ -1,4 +1,5 @@
-ghost use Rattle.std.specs.Prelude.{◌≡◌, IfOk, map};
+ghost use Rattle.std.specs.Prelude.{◌≡◌, ◌<◌, ◌^◌, IfOk, map};
+ghost use Rattle.std.specs.Result.{OkIff};
 ghost use Rattle.lk_claims.specs.Claim.{value_type};
 ghost use Rattle.leg_items.specs.Names.{leg_name};
 ghost use Rattle.leg_numbers.specs.Numbered.{name_number, numbered_type, record_number};
@@ -10,14 +11,11 @@ use lk_claims::Ty;
 use sqlite_items::{Boxed, Items};
 use std::alloc::{AllocError, Global};
 
-/// A place in an order as a number.
+/// A place in an order as a number, where there is one.
 fn number(place: usize) -> Result<u32, NoMemory>
-    ensures { IfOk result (λ n. n ≡ place) }
+    ensures { OkIff result (place < 2 ^ 32) place }
 {
-    if place > u32::MAX as usize {
-        return Err(AllocError);
-    }
-    Ok(place as u32)
+    u32::try_from(place).map_err(|_| AllocError)
 }
 
 /// The place of a variable in the order, or 0.

@@ -1,4 +1,5 @@
-ghost use Rattle.std.specs.Prelude.{◌≡◌, ◌+◌, ◌++◌, ◌∷◌, [], length, take, IfOk, OnOk};
+ghost use Rattle.std.specs.Prelude.{◌≡◌, ◌<◌, ◌^◌, ◌+◌, ◌++◌, ◌∷◌, [], length, take, OnOk};
+ghost use Rattle.std.specs.Result.{OkIff};
 ghost use Rattle.std.specs.Option.{option_map};
 ghost use Rattle.type_rules.specs.Meanings as rule;
 ghost use Rattle.type_rules.specs.Meanings.{Scope};
@@ -15,9 +16,9 @@ use std::alloc::{AllocError, Global};
 use std::mem::replace;
 use text_types::TextType;
 
-/// One more.
+/// One more, where there is such a number.
 fn next(count: u32) -> Result<u32, NoMemory>
-    ensures { IfOk result (λ n. n ≡ count + 1) }
+    ensures { OkIff result (count + 1 < 2 ^ 32) (count + 1) }
 {
     count.checked_add(1).ok_or(AllocError)
 }

@@ -18,5 +18,5 @@ loop-place-preserved c =
     parameters-more c.args.call.node.0 c.args.call.method c.in_ok-number.field-0 (map of (take k exprs)) (map of (take (k + 1) exprs)) (of c.index-arguments-place.result)
     (items_of c.args.out.now) (items_of c.loop-place.out) (items_of c.add_parameter.new.out)
     (map_more of exprs k c.index-arguments-place.result below ∙ ap (λ x. map of (take k exprs) ++ of x ∷ []) (sym c.index-arguments-place.is))
-    (c.in_ok-number.ensures ∙ sym (length-map (take k exprs) of ∙ length-take-le k exprs (omega (arith, below))))
+    (c.in_ok-number.ensures.1 ∙ sym (length-map (take k exprs) of ∙ length-take-le k exprs (omega (arith, below))))
     c.loop-place.invariant c.in_ok-add_parameter.ensures

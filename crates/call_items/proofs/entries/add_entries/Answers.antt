@@ -13,4 +13,4 @@ loop-global-preserved c =
     entries-more c.args.node.0 (λ g. frame_variable c.args.frame (entry g)) named c.loop-global.global
     (items_of c.args.out.now) (items_of c.loop-global.out) (items_of c.add_entry.new.out) c.loop-global.invariant
     (c.in_ok-add_entry.ensures
-    ∙ ap (λ g. items_of c.loop-global.out ++ entry_items c.args.node.0 (λ k. frame_variable c.args.frame (entry k)) (named g)) c.in_ok-number.ensures)
+    ∙ ap (λ g. items_of c.loop-global.out ++ entry_items c.args.node.0 (λ k. frame_variable c.args.frame (entry k)) (named g)) c.in_ok-number.ensures.1)

@@ -5,7 +5,7 @@ use Rattle.leg_items.specs.declared.name.MethodVariable.TheVariants as v
 use Rattle.leg_items.specs.declared.name.Name.{Name}
 use Rattle.leg_items.specs.declared.name.Name.TheVariants as n
 use Rattle.leg_items.specs.Names.{leg_name}
-use Rattle.leg_numbers.proofs.Places.{any_default, if_ok_map, name_at, name_nowhere, one_more_name}
+use Rattle.leg_numbers.proofs.Places.{any_default, if_ok_map, told_value, name_at, name_nowhere, one_more_name}
 use Rattle.leg_numbers.proofs.numbers.number_of_name.Goals as goal
 
 pub returns-then-same : goal.returns-then-same
@@ -16,7 +16,7 @@ returns-then-same c =
     let below : k < length names = omega (arith, c.loop-place-test.true) in
     if_ok_map c.number.result (λ m. m ≡ k) _
     (λ m h. h ∙ name_at names x _ k below (λ j l. c.loop-place.invariant j _ l) (sym c.if-same.ensures) ∙ ap (λ l. number_in same_name (map leg_name l) x) c.as_slice-names.ensures)
-    c.number.ensures
+    (told_value c.number.result _ _ c.number.ensures)
 
 pub loop-place-preserved : goal.loop-place-preserved
 loop-place-preserved c =

@@ -12,5 +12,5 @@ loop-place-preserved c =
     fixed-more c.args.scope c.args.node.0 (items_of c.args.drafts.now) c.in_ok-number.field-0 (take k globals) (take (k + 1) globals) c.index-globals-place.result
     (items_of c.args.out.now) (items_of c.loop-place.out) (items_of c.add_fixed.new.out)
     (take_more globals k c.index-globals-place.result below ∙ ap (λ x. take k globals ++ x ∷ []) (sym c.index-globals-place.is))
-    (c.in_ok-number.ensures ∙ sym (length-take-le k globals (omega (arith, below))))
+    (c.in_ok-number.ensures.1 ∙ sym (length-take-le k globals (omega (arith, below))))
     c.loop-place.invariant c.in_ok-add_fixed.ensures
