@@ -1,0 +1,9 @@
+pub mod Firsts
+pub mod NewAppearances
+pub mod NewRecords
+pub mod Orders
+pub mod Expressions
+pub mod Items
+pub mod Calls
+pub mod Codes
+pub mod Methods
