@@ -1,8 +1,9 @@
-"""The rules of names and types over a whole project: the first fault of each file, or none."""
+"""The rules of names, types and heights over a whole project: the first fault of each file, or none."""
 from __future__ import annotations
 
 from dataclasses import dataclass, field
 
+import heights
 from text import ARROWS, Place
 from trees import Expr, Global, Method, Name, Record, Step, Stmt, Type
 
@@ -606,4 +607,7 @@ class MethodCheck:
 def faults_of(files: list[tuple[str, list]]) -> list[tuple[str, Place, int]]:
     """The first fault of each file that has one, by the bytes of the files' names."""
     project = Project(files)
+    for name, declarations in project.files:
+        for place in heights.too_high(declarations):
+            project.faults[name].add(heights.CODE, place)
     return [(name, *project.faults[name].first) for name, _ in project.files if project.faults[name].first]

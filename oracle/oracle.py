@@ -6,9 +6,9 @@ says which of their definitions its writer knew. It is no part of the gate. It i
 it and the program differ, one of the two reads a rule wrongly.
 
 It reads the whole language already: `text.py` has tokens, grammar and first faults, `trees.py` the trees, `names.py` the rules of names
-and types, `program.py` the typed program, `legs.py` legs, sequents and verdicts, `terms.py` and `closer.py` the prover, `proofs.py`
-deduction, `runs.py` runs, and `whole.py` the report on a project. The program does not read all of it yet, so `check` here refuses what
-the program refuses. `compare.py` runs both on random texts.
+and types, `heights.py` those of heights, `program.py` the typed program, `legs.py` legs, sequents and verdicts, `terms.py` and
+`closer.py` the prover, `proofs.py` deduction, `runs.py` runs, and `whole.py` the report on a project. The program does not read all of it
+yet, so `check` here refuses what the program refuses. `compare.py` runs both on random texts.
 
     oracle/oracle.py < text
 """

@@ -105,6 +105,20 @@ def called_up() -> str:
     return "var g: Z = 0\n" + up + method("use(): Unit", "Modifies(g)", "g = 1", "up()", "assert(g == 1)")
 
 
+def sum_of(operators: int) -> str:
+    """A sum of ones so high, of which at most 190 stand in one pair of brackets."""
+    text = "1"
+    while operators:
+        here = min(operators, 190)
+        text = ("(" + text + ")" if len(text) > 1 else text) + " + 1" * here
+        operators -= here
+    return text
+
+
+def high(operators: int, ty: str = "Z", before: str = "") -> str:
+    return f"def h(): Unit = {{\n{before}  val y: {ty} = {sum_of(operators)}\n}}"
+
+
 def keep(ensures: str) -> str:
     return method("keep(p: B, q: B): Unit", f"Requires(p & q); Ensures({ensures})")
 
@@ -180,6 +194,10 @@ CHECKS = {
     "cut off": ("def inc(x: Z", "-:1:13 E4 unexpected token"),
     "198 brackets": (f"def n(): Z = {{\n  return {'(' * 198}1{')' * 198}\n}}", one("n", "verified")),
     "199 brackets": (f"def n(): Z = {{\n  return {'(' * 199}1{')' * 199}\n}}", "-:2:208 E5 nesting above 200"),
+    "height 1,000": (high(999), one("h", "verified")),
+    "height 1,001": (high(1000), "-:2:19 E5 nesting above 200"),
+    "too high, and of another type": (high(1000, "B"), "-:2:19 E5 nesting above 200"),
+    "too high behind another fault": (high(1000, before="  val x: Z = z\n"), "-:2:14 E6 unknown name"),
     "not UTF-8": (b"def \xff", "-:1:5 E1 not UTF-8"),
     "open comment": ("/*", "-:1:1 E2 bad character"),
     # beyond the worked rows: one for each sentence on legs that none of them needs
