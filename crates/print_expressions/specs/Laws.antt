@@ -1,0 +1,25 @@
+-- What holds of printed expressions, as one statement each.
+use Rattle.std.specs.Prelude.{◌≡◌, ℕ, ◌^◌, ◌<◌, ◌≤◌, length, IsTrue}
+use Rattle.slang_lexer.specs.Next.{value_of as number_value}
+use Rattle.slang_tree.specs.ExprTree.{ExprTree}
+use Rattle.slang_grammar.specs.Parts.{is_numeral}
+use Rattle.slang_grammar.specs.Expressions.{ExprText, expr_tokens, IsGrouped, expr_tree}
+use Rattle.print_expressions.specs.Bare.{bare_expr}
+use Rattle.print_expressions.specs.Accounts.{numeral, expr_account}
+
+abbrev pub NumeralsReadBack : Type 0
+NumeralsReadBack = (n : ℕ) → n < 2 ^ 127 → IsTrue (is_numeral (numeral n)) × (number_value (numeral n) ≡ n)
+
+-- Of each tree that the grammar reads: what is printed is in the grammar, and its tree is the same without places.
+abbrev pub ExpressionsReadBack : Type 0
+ExpressionsReadBack =
+    (text : ExprText) → IsGrouped text →
+    IsGrouped (expr_account (expr_tree text)) × (expr_tree (expr_account (expr_tree text)) ≡ bare_expr (expr_tree text))
+
+abbrev pub PlacesAreNotPrinted : Type 0
+PlacesAreNotPrinted = (tree : ExprTree) → expr_account (bare_expr tree) ≡ expr_account tree
+
+-- So no bracket that is printed could be left out.
+abbrev pub ExpressionsAreShortest : Type 0
+ExpressionsAreShortest =
+    (text : ExprText) → IsGrouped text → length (expr_tokens (expr_account (expr_tree text))) ≤ length (expr_tokens text)

@@ -1,0 +1,4 @@
+pub mod Bare
+pub mod Operators
+pub mod Accounts
+pub mod Laws
