@@ -1,0 +1,4 @@
+pub mod Tables
+pub mod Reaching
+pub mod Counting
+pub mod Allowed
