@@ -1,0 +1,3 @@
+pub mod Parts
+pub mod Methods
+pub mod Back
