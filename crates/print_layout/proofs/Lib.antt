@@ -1,0 +1,4 @@
+pub mod Spells
+pub mod Expressions
+pub mod Statements
+pub mod Declarations
