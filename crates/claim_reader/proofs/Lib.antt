@@ -1,0 +1,3 @@
+pub mod TypeHeads
+pub mod ClaimHeads
+pub mod Coded
