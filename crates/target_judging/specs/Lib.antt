@@ -1,0 +1,2 @@
+pub mod MayBeNamed
+pub mod Otherwise
