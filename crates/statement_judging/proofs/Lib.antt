@@ -1,0 +1,5 @@
+pub mod Sizes
+pub mod Behind
+pub mod Scopes
+pub mod Faults
+pub mod Forms

@@ -1,0 +1,4 @@
+pub mod Sizes
+pub mod Keeps
+pub mod Judged
+pub mod Declaration
