@@ -1,0 +1,3 @@
+pub mod WorkedOut
+pub mod OpenedOnce
+pub mod BothSides
