@@ -1,0 +1,7 @@
+//! Tests of the legs of methods.
+#![tactic(auto)]
+
+#[cfg(test)]
+mod programs;
+#[cfg(test)]
+mod tables;
