@@ -98,7 +98,7 @@ impl Exec {
 
     /// The next sequent of the leg, as numbers of the store. After an error there is the same error again, and after the end the end.
     pub fn next(&mut self, alloc: Global, leg: &Leg, store: &mut TermStore) -> Result<Next, ExecEnd>
-        requires { IsReady store.old self.old leg.now }
+        requires { self.old.end ≡ None → IsReady store.old self.old leg.now }
         ensures next { IfOk result (λ next. IsNext next store.old self.old store.new self.new leg.now) }
         ensures goes_on { IfOk result (λ _. (self.old.end ≡ None) × (self.new.end ≡ None)) }
         ensures ready { OnOk result (IsReady store.new self.new leg.now) }
