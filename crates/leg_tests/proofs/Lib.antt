@@ -1,1 +1,2 @@
+pub mod TwoMethods
 pub mod WellTyped

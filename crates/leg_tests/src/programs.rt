@@ -13,7 +13,7 @@ use slang_tree::{Place, Text};
 use sqlite_items::Items;
 use std::alloc::Global;
 
-fn one<T: Drop>(alloc: Global, item: T) -> Result<Items<T>, NoMemory>
+pub fn one<T: Drop>(alloc: Global, item: T) -> Result<Items<T>, NoMemory>
     ensures { IfOk result (λ items. items ≡ item ∷ []) }
 {
     let mut items = Items::new(alloc);
@@ -101,7 +101,7 @@ fn methods(alloc: Global, count: u32) -> Result<Items<Method>, NoMemory>
     one(alloc, method)
 }
 
-fn files(alloc: Global) -> Result<Items<Text>, NoMemory>
+pub fn files(alloc: Global) -> Result<Items<Text>, NoMemory>
     ensures { IfOk result (λ files. length files ≡ 1) }
 {
     let name = Text::from_str(alloc, "m.sc")?;

@@ -1,5 +1,6 @@
 //! How many legs there are, and what they hold.
 
+use crate::calls::calling;
 use crate::programs::branching;
 use legs::{LegsEnd, legs_of};
 use lk_programs::Legs;
@@ -55,6 +56,52 @@ fn first_wrong(alloc: Global) -> Result<Option<usize>, Fail> {
 #[test]
 fn legs_are_counted(rt: HostRuntime) -> Result<(), Fail> {
     let wrong = first_wrong(rt.alloc())?;
+    assert!(rt; wrong.is_none());
+    Ok(())
+}
+
+/// The method, and how many items and variables its one leg has.
+const ALONE: [(u32, usize, usize); 2] = [
+    // the global is set to what it was, and 1
+    (0, 1, 1),
+    // the parameter is set to the argument, and the global has any value
+    (1, 2, 3),
+];
+
+/// The first method that does not have one leg of so many items and variables.
+fn wrong_alone(alloc: Global) -> Result<Option<usize>, Fail> {
+    let typed = calling(alloc)?;
+    for (row, (method, items, variables)) in ALONE.iter().enumerate() {
+        if *method >= 2 {
+            return Ok(Some(row));
+        }
+        match legs_of(alloc, &typed, *method) {
+            Ok(legs) => {
+                if !is_alone(&legs, *items, *variables) {
+                    return Ok(Some(row));
+                }
+            }
+            Err(_) => return Ok(Some(row)),
+        }
+    }
+    Ok(None)
+}
+
+fn is_alone(legs: &Legs, items: usize, variables: usize) -> bool {
+    legs.legs.len() == 1
+        && legs.nodes.len() == 1
+        && legs.legs.as_slice().iter().all(|leg| leg.items.len() == items
+            && leg.vars.len() == variables)
+        && legs
+            .nodes
+            .as_slice()
+            .iter()
+            .all(|nodes| nodes.len() == items)
+}
+
+#[test]
+fn calls_and_assignments(rt: HostRuntime) -> Result<(), Fail> {
+    let wrong = wrong_alone(rt.alloc())?;
     assert!(rt; wrong.is_none());
     Ok(())
 }
