@@ -1,0 +1,3 @@
+pub mod StepHeads
+pub mod ItemHeads
+pub mod LegParts
