@@ -12,7 +12,7 @@ pub type Plain<'a> = (&'a [(u32, i128)], i128);
 pub type Pair = (i128, i128, i128);
 
 /// The parts as they stand, canonical or not.
-pub fn parts(alloc: Global, plain: &[(u32, i128)]) -> Result<Vec<RowPart>, Fail> {
+pub(crate) fn parts(alloc: Global, plain: &[(u32, i128)]) -> Result<Vec<RowPart>, Fail> {
     let mut made = Vec::new(alloc);
     for (var, times) in plain {
         made.push(RowPart {
@@ -24,7 +24,7 @@ pub fn parts(alloc: Global, plain: &[(u32, i128)]) -> Result<Vec<RowPart>, Fail>
 }
 
 /// The row of canonical parts; an error for others.
-pub fn row(alloc: Global, plain: Plain<'_>) -> Result<Row, Fail> {
+pub(crate) fn row(alloc: Global, plain: Plain<'_>) -> Result<Row, Fail> {
     let parts = parts(alloc, plain.0)?;
     if !is_canonical(&parts) {
         return Err(Fail::from("no row has these parts"));
@@ -32,7 +32,7 @@ pub fn row(alloc: Global, plain: Plain<'_>) -> Result<Row, Fail> {
     Ok(Row::new(parts, plain.1))
 }
 
-pub fn pair(alloc: Global, plain: Pair) -> Result<Row, Fail> {
+pub(crate) fn pair(alloc: Global, plain: Pair) -> Result<Row, Fail> {
     let mut parts = Vec::new(alloc);
     for (var, times) in [(0, plain.0), (1, plain.1)] {
         if times != 0 {
@@ -45,7 +45,7 @@ pub fn pair(alloc: Global, plain: Pair) -> Result<Row, Fail> {
     Ok(Row::new(parts, plain.2))
 }
 
-pub fn pairs(alloc: Global, plain: &[Pair]) -> Result<Vec<Row>, Fail> {
+pub(crate) fn pairs(alloc: Global, plain: &[Pair]) -> Result<Vec<Row>, Fail> {
     let mut made = Vec::new(alloc);
     for one in plain {
         made.push(pair(alloc, *one)?)?;
@@ -53,7 +53,7 @@ pub fn pairs(alloc: Global, plain: &[Pair]) -> Result<Vec<Row>, Fail> {
     Ok(made)
 }
 
-pub fn certificate(alloc: Global, lines: &[(CertStep, Pair)]) -> Result<Cert, Fail> {
+pub(crate) fn certificate(alloc: Global, lines: &[(CertStep, Pair)]) -> Result<Cert, Fail> {
     let mut made = Vec::new(alloc);
     for (step, plain) in lines {
         made.push(CertLine {

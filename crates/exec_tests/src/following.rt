@@ -58,7 +58,7 @@ fn add_calls(
 }
 
 /// What so many calls give, each with how many trees the store has then.
-pub fn follow(
+pub(crate) fn follow(
     alloc: Global,
     leg: &Leg,
     store: &mut TermStore,

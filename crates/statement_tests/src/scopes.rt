@@ -128,7 +128,7 @@ fn records(alloc: Global) -> Result<Items<RecordFields>, Fail> {
     Ok(records)
 }
 
-pub fn scope(alloc: Global) -> Result<NameScope, Fail> {
+pub(crate) fn scope(alloc: Global) -> Result<NameScope, Fail> {
     let names = names(alloc)?;
     let records = records(alloc)?;
     let covered = covered(alloc)?;

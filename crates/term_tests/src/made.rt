@@ -74,14 +74,14 @@ type Stack = Items<Boxed<Term>>;
 
 /// The term that the words spell, each operator behind its parts, as `x 2 *`. A small letter is a symbol, and `b0` the
 /// innermost bound variable.
-pub fn term(alloc: Global, words: &str) -> Result<Boxed<Term>, Fail> {
+pub(crate) fn term(alloc: Global, words: &str) -> Result<Boxed<Term>, Fail> {
     let mut stack = Items::new(alloc);
     read(alloc, &mut stack, words)?;
     Ok(stack.pop().ok_or("no term")?)
 }
 
 /// Whether it is the term that the words spell.
-pub fn is_spelled(alloc: Global, given: &Term, words: &str) -> Result<bool, Fail> {
+pub(crate) fn is_spelled(alloc: Global, given: &Term, words: &str) -> Result<bool, Fail> {
     Ok(compare(given, term(alloc, words)?.get()) == Ordering::Equal)
 }
 
