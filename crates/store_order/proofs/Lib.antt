@@ -1,0 +1,2 @@
+pub mod NoSort
+pub mod Deciding
