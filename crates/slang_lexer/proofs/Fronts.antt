@@ -1,5 +1,5 @@
 -- Which token a piece of text is, and which longest token a text begins with.
-use Rattle.std.proofs.Common.{◌≡◌, ℕ, zero, suc, ◌+◌, ◌<◌, ◌≤◌, Bool, true, false, not, List, [], ◌∷◌, length, take, get_or, Option, None, Some, refl, sym, ◌∙◌, ap, subst, inl, inr, ◌⊎◌, ⊎_elim, arith, map, length-take-le}
+use Rattle.std.proofs.Common.{◌≡◌, ℕ, zero, suc, ◌+◌, ◌<◌, ◌≤◌, Bool, true, false, not, List, [], ◌∷◌, length, take, get_or, Option, None, Some, refl, sym, ◌∙◌, ap, subst, inl, inr, ◌⊎◌, ⊎_elim, arith, length-take-le}
 use Rattle.std.specs.Char.{is_ascii_digit, encode_utf8}
 use Rattle.std.specs.List.{list_all, prefix_len}
 use Rattle.std.specs.Option.{option_or, unwrap_or}
@@ -11,20 +11,10 @@ use Rattle.std.proofs.lemmas.List.{get_or_past, get_or-take, take_all}
 use Rattle.std.proofs.lemmas.List.Sums.{prefix_len-le-length}
 use Rattle.slang_lexer.specs.declared.token.TokenKind.{TokenKind}
 use Rattle.slang_lexer.specs.declared.token.TokenKind.TheVariants as kind
-use Rattle.slang_lexer.specs.declared.tables.TheConstants.{SIGNS, WORDS}
 use Rattle.slang_lexer.specs.Spelling.{signs, words, kind_in, kind_of, make_name, begins_name, is_name, is_number}
 use Rattle.slang_lexer.specs.Scan.{first_at, NoLongerFront, IsLongestFront, IsLongestName}
 use Rattle.slang_lexer.proofs.Names.{is_name_parts, IsUtf8-name}
 use Rattle.slang_lexer.proofs.Rows.{in_order, IsFirst-from, kind_in-none, of_spellings, of_kinds, some_same, some≢none}
-
--- the code's tables are those of the definitions
-pub signs_are : map (λ row. (row.0.now, row.1)) SIGNS ≡ signs
-unfolding signs
-signs_are = refl
-
-pub words_are : map (λ row. (row.0.now, row.1)) WORDS ≡ words
-unfolding words
-words_are = refl
 
 pub signs_in_order : in_order signs ≡ true
 unfolding signs

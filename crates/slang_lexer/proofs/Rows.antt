@@ -18,7 +18,7 @@ abbrev pub in_order : Table → Bool
 in_order [] = true
 in_order (row ∷ table) = begins_none row.0 table && in_order table
 
-starts-true : (bytes spelling : List ℕ) → starts_with nat_eq bytes spelling ≡ true → take (length spelling) bytes ≡ spelling
+pub starts-true : (bytes spelling : List ℕ) → starts_with nat_eq bytes spelling ≡ true → take (length spelling) bytes ≡ spelling
 starts-true bytes spelling h = sym ((bytes_eq-Decides spelling (take (length spelling) bytes)).0 h)
 
 true-starts : (bytes spelling : List ℕ) → take (length spelling) bytes ≡ spelling → starts_with nat_eq bytes spelling ≡ true

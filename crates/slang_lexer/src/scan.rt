@@ -6,7 +6,7 @@ ghost use Rattle.std.specs.Char.{is_ascii_digit};
 ghost use Rattle.slang_lexer.specs.Scan.{table_of, first_at, NoLongerFront, IsLongestFront, IsLongestName};
 ghost use Rattle.slang_lexer.specs.Spelling.{signs, words, begins_name, continues_name, kind_in};
 
-use crate::tables::{SIGNS, WORDS};
+use crate::tables::{signs_from, words_of};
 use crate::token::TokenKind;
 
 /// The first sign of the table that the bytes begin with: its kind, and its length.
@@ -37,14 +37,17 @@ fn word_kind(words: &[(&str, TokenKind)], name: &[u8]) -> Option<TokenKind>
 fn sign_at(bytes: &[u8]) -> Option<(TokenKind, usize)>
     ensures { result ≡ first_at signs bytes.now }
 {
-    first_sign(&SIGNS, bytes)
+    match bytes.first() {
+        Some(first) => first_sign(signs_from(*first), bytes),
+        None => None,
+    }
 }
 
 /// The kind of a name, which may be a word.
 fn name_kind(name: &[u8]) -> TokenKind
     ensures { result ≡ unwrap_or (kind_in words name.now) TokenKind.Name }
 {
-    word_kind(&WORDS, name).unwrap_or(TokenKind::Name)
+    word_kind(words_of(name.len()), name).unwrap_or(TokenKind::Name)
 }
 
 /// How many digits the bytes begin with.
