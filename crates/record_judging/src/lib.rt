@@ -6,7 +6,7 @@ mod records;
 mod written;
 
 pub use fields::judged_fields;
-pub use records::record_table;
+pub use records::{allowed_of, record_table};
 pub use written::written_fields;
 
 /// Want of memory.
