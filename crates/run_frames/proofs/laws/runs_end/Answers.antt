@@ -1,0 +1,5 @@
+use Rattle.std.proofs.Common.{refl}
+use Rattle.run_frames.proofs.laws.runs_end.Goals as goal
+
+pub returns : goal.returns
+returns c = λ limit program next method values. refl
