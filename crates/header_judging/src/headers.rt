@@ -6,6 +6,7 @@ ghost use Rattle.type_faults.specs.FirstFault.{with_first};
 ghost use Rattle.text_types.specs.Found.{bare, seen};
 ghost use Rattle.name_scopes.specs.Fits.{Fits};
 ghost use Rattle.signature_judging.specs.Knows.{Knows};
+ghost use Rattle.statement_judging.specs.Keeps.{Keeps};
 ghost use Rattle.header_judging.specs.Headers.{contract_faults, header_faults, types_faults};
 
 use crate::NoMemory;
@@ -33,6 +34,7 @@ fn judged_types(
     ensures fits { OnOk result ((names : List Declared) (at : Scope) → Knows outline.old.names names → Fits scope.old at
         → Fits scope.new (rule.contract_scope names at (method_decl_tree decl.now))) }
     ensures found { IfOk result (λ found. (names : List Declared) → Knows outline.old.names names → seen found ≡ bare (rule.result_type names (method_decl_tree decl.now))) }
+    ensures kept { OnOk result (Keeps scope.old scope.new) }
     ensures outline { OnOk result (outline.new ≡ outline.old) }
 {
     let (types, found) = header_types(alloc, outline, told, decl)?;
@@ -88,6 +90,7 @@ pub fn judged_header(
     ensures fits { OnOk result ((names : List Declared) (at : Scope) → Knows outline.old.names names → Fits scope.old at
         → Fits scope.new (rule.contract_scope names at (method_decl_tree decl.now))) }
     ensures found { IfOk result (λ found. (names : List Declared) → Knows outline.old.names names → seen found ≡ bare (rule.result_type names (method_decl_tree decl.now))) }
+    ensures kept { OnOk result (Keeps scope.old scope.new) }
     ensures outline { OnOk result (outline.new ≡ outline.old) }
 {
     let found = judged_types(alloc, outline, scope, told, decl)?;

@@ -6,6 +6,7 @@ ghost use Rattle.type_rules.specs.Projects as rule;
 ghost use Rattle.type_faults.specs.FirstFault.{with_first};
 ghost use Rattle.text_types.specs.Found.{seen};
 ghost use Rattle.name_scopes.specs.Fits.{Fits};
+ghost use Rattle.statement_judging.specs.Keeps.{Keeps};
 ghost use Rattle.header_judging.specs.Headers.{new_params_faults};
 
 use crate::NoMemory;
@@ -26,6 +27,7 @@ fn declare_param(
 ) -> Result<(), NoMemory>
     ensures told { OnOk result ((at : Scope) → Fits scope.old at → told.new.found ≡ with_first told.old.found (new_name_faults at (param_tree param.now).written)) }
     ensures fits { OnOk result ((at : Scope) → Fits scope.old at → Fits scope.new (with_local at (param_tree param.now).written.text false (seen found).type)) }
+    ensures kept { OnOk result (Keeps scope.old scope.new) }
 {
     new_name(scope, told, &param.name);
     scope.declare(alloc, param.name.text.as_str(), false, found.ty)
@@ -43,6 +45,7 @@ fn declare_each(
     ensures told { OnOk result ((at : Scope) → Fits scope.old at
         → told.new.found ≡ with_first told.old.found (new_params_faults at (map param_tree params.now) (map seen types.now))) }
     ensures fits { OnOk result ((at : Scope) → Fits scope.old at → Fits scope.new (rule.with_params at (map param_tree params.now) (map seen types.now))) }
+    ensures kept { OnOk result (Keeps scope.old scope.new) }
 {
     for i in 0..params.len() {
         declare_param(alloc, scope, told, &params[i], types[i])?;
@@ -62,6 +65,7 @@ pub fn declare_params(
         → told.new.found ≡ with_first told.old.found (new_params_faults at (map param_tree params.now) (map seen types.now))) }
     ensures fits { OnOk result ((at : Scope) → Fits scope.old at → length params.now ≡ length types.now
         → Fits scope.new (rule.with_params at (map param_tree params.now) (map seen types.now))) }
+    ensures kept { OnOk result (Keeps scope.old scope.new) }
 {
     if params.len() == types.len() {
         declare_each(alloc, scope, told, params, types)

@@ -1,8 +1,9 @@
-use Rattle.std.proofs.Common.{ap}
+use Rattle.std.proofs.Common.{ap, subst, sym}
 use Rattle.slang_tree.specs.DeclTree.{method_decl_tree}
 use Rattle.text_types.specs.Found.{seen}
 use Rattle.type_rules.specs.Judged.{Judged}
 use Rattle.type_rules.specs.Projects.{contract_scope}
+use Rattle.statement_judging.specs.Keeps.{Keeps}
 use Rattle.header_judging.proofs.Heading.{header_told}
 use Rattle.header_judging.proofs.headers.judged_header.Goals as goal
 
@@ -13,3 +14,6 @@ returns-clause-told c = λ names at knows fits.
     (ap (λ (j : Judged). j.type) (c.in_ok-found.ensures.found names knows))
     (c.in_ok-found.ensures.told names at knows fits)
     (c.in_ok-judged_contract.ensures.told (contract_scope names at decl) (c.in_ok-found.ensures.fits names at knows fits))
+
+pub returns-clause-kept : goal.returns-clause-kept
+returns-clause-kept c = subst (Keeps c.args.scope.now) (sym c.in_ok-judged_contract.ensures.scope) c.in_ok-found.ensures.kept
