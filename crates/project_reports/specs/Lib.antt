@@ -1,0 +1,4 @@
+pub mod Projects
+pub mod Texts
+pub mod Reports
+pub mod Laws
