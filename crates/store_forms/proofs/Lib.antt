@@ -1,0 +1,5 @@
+pub mod Atoms
+pub mod Placing
+pub mod Inserting
+pub mod Summing
+pub mod Added
