@@ -1,0 +1,3 @@
+pub mod Judged
+pub mod Views
+pub mod Laws
