@@ -1,0 +1,5 @@
+//! Tests of sequents with many instances.
+#![tactic(auto)]
+
+#[cfg(test)]
+mod counting;
