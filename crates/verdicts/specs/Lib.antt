@@ -1,0 +1,4 @@
+pub mod Choice
+pub mod Laws
+pub mod Texts
+pub mod Reports
