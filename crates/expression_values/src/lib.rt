@@ -5,8 +5,8 @@ mod ending;
 mod environment;
 mod evaluation;
 mod forms;
-mod made;
-mod numbers;
+pub mod made;
+pub mod numbers;
 
 pub use ending::EvalEnd;
 pub use environment::Env;

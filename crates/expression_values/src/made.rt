@@ -134,6 +134,7 @@ fn number_held(value: &Value) -> Option<i128>
     }
 }
 
+/// A number as a value, which fits.
 #[tactic(auto, using(run_values::proofs::Values::value_lines, crate::proofs::Fitting::number_lines))]
 pub fn of_number<'v>(z: i128) -> Held<'v>
     ensures value { held_value result ≡ number z }

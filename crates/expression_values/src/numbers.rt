@@ -61,7 +61,6 @@ pub fn truth_of_two(op: Binary, a: bool, b: bool) -> bool
 }
 
 /// Whether one number is less than another, or where the operator is `<=` at most the other.
-
 pub fn is_in_order(op: Binary, a: i128, b: i128) -> bool
     ensures { result ≡ order_from op a b }
 {

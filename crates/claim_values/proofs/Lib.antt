@@ -1,0 +1,5 @@
+pub mod Bodies
+pub mod Dispatch
+pub mod Places
+pub mod Outside
+pub mod Steps
