@@ -8,7 +8,7 @@ it and the program differ, one of the two reads a rule wrongly.
 It reads the whole language already: `text.py` has tokens, grammar and first faults, `trees.py` the trees, `names.py` the rules of names
 and types, `heights.py` those of heights, `program.py` the typed program, `legs.py` legs, sequents and verdicts, `terms.py` and
 `closer.py` the prover, `proofs.py` deduction, `runs.py` runs, and `whole.py` the report on a project. The program does not read all of it
-yet, so `check` here refuses what the program refuses. `compare.py` runs both on random texts.
+yet: `check` here refuses what the program refuses. `compare.py` runs both on random texts.
 
     oracle/oracle.py < text
 """
@@ -18,7 +18,6 @@ sys.dont_write_bytecode = True      # leaves no folder of compiled files behind
 sys.setrecursionlimit(1_000_000)    # the terms of long sums are high
 
 import trees                        # noqa: E402
-from text import TextFault          # noqa: E402
 from trees import Expr, Method      # noqa: E402
 from whole import report            # noqa: E402
 
@@ -49,11 +48,10 @@ def check(data: bytes) -> tuple[str, int]:
     """Standard output and exit status for the bytes of a text."""
     if len(data) > TEXT_LIMIT or any(len(line) > LINE_LIMIT for line in data.split(b"\n")):
         return "", 8
-    try:
-        output, status = report([("-", data)]) if is_of_today(trees.read(data)) else ("", 2)
-    except TextFault:
-        status = 2
-    return (output, status) if status != 2 else ("revision 1\n-:1:1 E14 form left out\n", 2)
+    output, status = report([("-", data)])
+    if status == 2 or is_of_today(trees.read(data)):
+        return output, status
+    return "revision 1\n-:1:1 E14 form left out\n", 2
 
 
 def main() -> int:

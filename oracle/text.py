@@ -198,7 +198,7 @@ def forms() -> dict[str, list[list[str]]]:
     members("params", "param")
     form("param", "<name> : type")
     form("body", "{ }", "{ contract }", "{ contract <newline> work }", "{ work }")
-    form("work", "return e0", "stmt", "stmt <newline> work")
+    form("work", "return e0", "return e0 <newline>", "stmt", "stmt <newline> work")
     form("contract", "Contract ( )", "Contract ( parts )")
     form("parts", "Requires claims after-requires", "Modifies names after-modifies", "Ensures claims comma")
     form("after-requires", "comma", ", Modifies names after-modifies", ", Ensures claims comma")

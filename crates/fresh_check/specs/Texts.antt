@@ -66,7 +66,24 @@ verdicts_text revision nodes lines = revision_text revision ++ (flat_map (line_t
 
 -- what a fault's code means
 abbrev pub fault_words : ℕ → List ℕ
-fault_words code = if code == 14 then codes "form left out" else []
+fault_words code =
+    if code == 1 then codes "not UTF-8"
+    else if code == 2 then codes "bad character"
+    else if code == 3 then codes "literal outside 128 bits"
+    else if code == 4 then codes "unexpected token"
+    else if code == 5 then codes "nesting above 200"
+    else if code == 6 then codes "unknown name"
+    else if code == 7 then codes "duplicate name"
+    else if code == 8 then codes "type differs"
+    else if code == 9 then codes "argument count"
+    else if code == 10 then codes "assignment to a constant"
+    else if code == 11 then codes "outside Modifies"
+    else if code == 12 then codes "call in the wrong place"
+    else if code == 13 then codes "loop without Invariant"
+    else if code == 14 then codes "form left out"
+    else if code == 15 then codes "claim word out of place"
+    else if code == 16 then codes "more than 10000 methods"
+    else []
 
 abbrev pub fault_text : Fault → List ℕ
 fault_text fault = place_words fault.place ++ (codes " E" ++ (decimal fault.code ++ (codes " " ++ (fault_words fault.code ++ codes "\n"))))

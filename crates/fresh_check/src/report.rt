@@ -120,7 +120,25 @@ pub fn verified_count(lines: &[Line]) -> usize
 fn fault_words(code: u8) -> &'static str
     ensures { result.now ≡ fault_words code }
 {
-    if code == 14 { "form left out" } else { "" }
+    match code {
+        1 => "not UTF-8",
+        2 => "bad character",
+        3 => "literal outside 128 bits",
+        4 => "unexpected token",
+        5 => "nesting above 200",
+        6 => "unknown name",
+        7 => "duplicate name",
+        8 => "type differs",
+        9 => "argument count",
+        10 => "assignment to a constant",
+        11 => "outside Modifies",
+        12 => "call in the wrong place",
+        13 => "loop without Invariant",
+        14 => "form left out",
+        15 => "claim word out of place",
+        16 => "more than 10000 methods",
+        _ => "",
+    }
 }
 
 /// The line of a fault.
