@@ -14,7 +14,8 @@ use Rattle.height_rules.proofs.Projects.{whole_projects_are_typed}
 use Rattle.verified_programs.proofs.Verified.{verified_safe}
 use Rattle.project_reports.specs.Projects.{NamedText, in_order, AreRead, AreUnread, HasFaults, no_texts, no_project, IsProject}
 use Rattle.project_reports.specs.Projects as p
-use Rattle.project_reports.specs.Texts.{verdicts_text, verdicts_code, faults_text}
+use Rattle.verdicts.specs.Texts.{faults_text}
+use Rattle.project_reports.specs.Texts.{verdicts_text, verdicts_code}
 use Rattle.project_reports.specs.Reports.{names_of, verdict_lines, IsReport, verdicts, faults}
 use Rattle.project_reports.specs.Laws.{ProjectsHaveOneReport, VerifiedMethodsAreSafe}
 

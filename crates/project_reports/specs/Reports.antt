@@ -8,7 +8,8 @@ use Rattle.run_texts.specs.Texts.{Names}
 use Rattle.type_rules.specs.Projects.{FileTree}
 use Rattle.typed_texts.specs.TypedProjects.{TypedProject, typed_project}
 use Rattle.project_reports.specs.Projects.{NamedText, HasFaults, IsProject}
-use Rattle.project_reports.specs.Texts.{Line, verdicts_text, verdicts_code, faults_text}
+use Rattle.verdicts.specs.Texts.{faults_text}
+use Rattle.project_reports.specs.Texts.{Line, verdicts_text, verdicts_code}
 
 -- what the numbers of the program stand for
 abbrev pub names_of : TypedProject → Names
