@@ -1,11 +1,11 @@
 -- Steps that are made from the results of their parts.
-use Rattle.std.proofs.Common.{◌≡◌, ℕ, Bool, Result, Ok, List, [], ◌∷◌, ◌++◌, map, refl, sym, ap, ap₂, ◌∙◌, subst}
+use Rattle.std.proofs.Common.{◌≡◌, ℕ, Bool, Result, List, [], ◌∷◌, ◌++◌, map, refl, sym, ap, ap₂, ◌∙◌, subst}
 use Rattle.std.specs.Prelude.{IfOk, OnOk}
 use Rattle.std.proofs.lemmas.List.{map-append}
 use Rattle.std.proofs.lemmas.Result.{IfOk-at_ok, IfOk-weaker}
 use Rattle.slang_tree.specs.declared.statement.Step.{Step}
 use Rattle.slang_tree.specs.StmtTree as text
-use Rattle.program_trees.specs.Claims.{ClaimTree, ProofStepTree, ProofStepTrees, line, block, no_steps, step_then, renamed_steps}
+use Rattle.program_trees.specs.Claims.{ClaimTree, ProofStepTree, line, block, step_then, renamed_steps}
 use Rattle.program_trees.specs.Variables.{Variable}
 use Rattle.lk_claims.specs.declared.claim.Claim.{Claim}
 use Rattle.lk_claims.specs.declared.step.ProofStep.{ProofStep}

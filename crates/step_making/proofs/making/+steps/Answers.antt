@@ -1,17 +1,17 @@
 use Rattle.std.proofs.Common.{◌≡◌, ◌+◌, ◌++◌, ◌∷◌, [], false, true, map, refl, sym, ap, subst, take, ◌∙◌}
-use Rattle.std.specs.Prelude.{IfOk, OnOk}
+use Rattle.std.specs.Prelude.{IfOk}
 use Rattle.std.proofs.lemmas.List.{take_more}
 use Rattle.std.proofs.lemmas.Result.{IfOk-weaker}
 use Rattle.slang_tree.specs.ExprTree.{expr_tree}
 use Rattle.slang_tree.specs.StmtTree.{line, block, let_block, step_tree, steps_of}
 use Rattle.slang_tree.proofs.Lines.{step_tree-Let, step_tree-Line, step_tree-Sub}
-use Rattle.type_rules.specs.Meanings.{Scope, block_variable, with_name}
+use Rattle.type_rules.specs.Meanings.{block_variable, with_name}
 use Rattle.type_rules.specs.Expressions.{in_proof}
 use Rattle.typed_texts.specs.Claims.{claim_of_tree, label_numbers, rule_number}
 use Rattle.name_scopes.specs.Fits.{Fits}
 use Rattle.claim_making.specs.Parts.{FromTwo}
-use Rattle.step_making.specs.Made.{AreSteps, IsStep}
-use Rattle.step_making.proofs.Steps.{NodeBlock, NodeLine, block_made, block_scope, line_made, line_scope, none_yet, of_tree, one_more}
+use Rattle.step_making.specs.Made.{AreSteps}
+use Rattle.step_making.proofs.Steps.{NodeLine, block_made, block_scope, line_made, line_scope, none_yet, of_tree, one_more}
 use Rattle.step_making.proofs.making.+steps.Goals as goal
 
 pub made_step-returns-in-Line-clause-step : goal.made_step-returns-in-Line-clause-step
