@@ -1,0 +1,3 @@
+pub mod RightSides
+pub mod Settings
+pub mod Arguments
