@@ -1,0 +1,4 @@
+pub mod Lists
+pub mod Clauses
+pub mod Lines
+pub mod Forms
