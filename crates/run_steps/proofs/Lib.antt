@@ -1,0 +1,4 @@
+pub mod Values
+pub mod Methods
+pub mod Begins
+pub mod Enters

@@ -1,0 +1,4 @@
+pub mod Arguments
+pub mod Ends
+pub mod Entering
+pub mod Steps
