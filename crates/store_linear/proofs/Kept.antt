@@ -21,7 +21,8 @@ use Rattle.store_linear.specs.Entries.{IsNarrowed}
 
 -- ---- nodes
 
-narrowed_node : (store : List Node) (t : Tree ℕ) (f : IdForm) (e : Entry) (rest : Bool) → IsForm store f (form t) → is_narrow t ≡ (has_small_numbers (form t) && rest) → rest ≡ true → IsNarrowed f e → IsEntryOf store t e
+narrowed_node : (store : List Node) (t : Tree ℕ) (f : IdForm) (e : Entry) (rest : Bool) → IsForm store f (form t) →
+    is_narrow t ≡ (has_small_numbers (form t) && rest) → rest ≡ true → IsNarrowed f e → IsEntryOf store t e
 narrowed_node store t f (Form g) rest h is r k = record {
   is = subst (λ (x : IdForm). IsForm store x (form t)) (sym k.0) h;
   narrow = is ∙ and_from _ _ (ap has_small_numbers (sym h.same) ∙ small-form_at store f ∙ k.1) r;
@@ -38,11 +39,13 @@ same_form store t f h = h.is.same
 pub small_entry : (store : List Node) (t : Tree ℕ) (f : IdForm) → HasForm store t f → (has_small_numbers (form t) ≡ true) → IsSmall store f
 small_entry store t f h s = record { within = h.is.within; small = sym (small-form_at store f) ∙ ap has_small_numbers h.is.same ∙ s }
 
-pub narrowed_unary : (old new : List Node) (op : Unary) (a : Tree ℕ) (f g : IdForm) (e : Entry) → HasForm old a f → IsForm new g (unary_form op (form_at old f)) → IsNarrowed g e → IsEntryOf new (unary op a) e
+pub narrowed_unary : (old new : List Node) (op : Unary) (a : Tree ℕ) (f g : IdForm) (e : Entry) → HasForm old a f →
+    IsForm new g (unary_form op (form_at old f)) → IsNarrowed g e → IsEntryOf new (unary op a) e
 narrowed_unary old new op a f g e h k n =
     narrowed_node new (unary op a) g e (is_narrow a) (subst (λ (x : LinearForm). IsForm new g (unary_form op x)) h.is.same k) (is_narrow-unary op a) h.narrow n
 
-pub narrowed_binary : (old new : List Node) (op : Binary) (a b : Tree ℕ) (f g x : IdForm) (e : Entry) → HasForm old a f → HasForm old b g → IsForm new x (binary_form op (form_at old f) (form_at old g)) → IsNarrowed x e → IsEntryOf new (binary op a b) e
+pub narrowed_binary : (old new : List Node) (op : Binary) (a b : Tree ℕ) (f g x : IdForm) (e : Entry) → HasForm old a f → HasForm old b g →
+    IsForm new x (binary_form op (form_at old f) (form_at old g)) → IsNarrowed x e → IsEntryOf new (binary op a b) e
 narrowed_binary old new op a b f g x e h i k n =
     let whole : IsForm new x (binary_form op (form a) (form b)) = subst (IsForm new x) (λ j. binary_form op (h.is.same j) (i.is.same j)) k in
     narrowed_node new (binary op a b) x e (is_narrow a && is_narrow b) whole (is_narrow-binary op a b) (and_from _ _ h.narrow i.narrow) n

@@ -14,5 +14,6 @@ returns-clause-entry c =
     let new = c.add.new.store in
     let node = c.in_ok-node.node in
     let form = c.in_ok-of_atom.field-0 in
-    has_atom store new c.args.id c.view.result.now node c.args.ids.now form c.view.ensures.placed c.in_ok-node.ensures.0 c.in_ok-node.ensures.1 c.requires.alone c.requires.terms
+    has_atom store new c.args.id c.view.result.now node c.args.ids.now
+    form c.view.ensures.placed c.in_ok-node.ensures.0 c.in_ok-node.ensures.1 c.requires.alone c.requires.terms
     (atom_of {E = ℕ} (Ok form) new c.in_ok-atom.atom (node_tree (stored store) node) c.in_ok-atom.ensures.number c.in_ok-of_atom.ensures)

@@ -20,7 +20,8 @@ returns-in-None-clause-entry c =
     (subst (AreTerms c.terms_of.new.store (map (tree_at store) parts)) c.in-None.is c.in_ok-terms_of.ensures.terms)
 
 pub atom_over-requires-clause-alone : goal.atom_over-requires-clause-alone
-atom_over-requires-clause-alone c = alone_still c.args.store.now c.terms_of.new.store c.args.id c.requires.within c.in_ok-terms_of.ensures.grows c.requires.alone
+atom_over-requires-clause-alone c = alone_still c.args.store.now
+    c.terms_of.new.store c.args.id c.requires.within c.in_ok-terms_of.ensures.grows c.requires.alone
 
 pub atom_over-requires-clause-terms : goal.atom_over-requires-clause-terms
 atom_over-requires-clause-terms c =
@@ -28,12 +29,14 @@ atom_over-requires-clause-terms c =
     let new = c.terms_of.new.store in
     let parts = c.as_slice.result.now in
     subst (IsOverTerms new c.args.id) (sym c.as_slice-in-Some.ensures.value)
-    (over_terms store new c.args.id c.view.result.now parts c.in-Some.ids.items c.view.ensures.placed (c.as_slice.ensures.value ∙ c.in_ok-parts.ensures) c.requires.within c.in_ok-terms_of.ensures.grows
+    (over_terms store new c.args.id c.view.result.now parts c.in-Some.ids.items c.view.ensures.placed
+    (c.as_slice.ensures.value ∙ c.in_ok-parts.ensures) c.requires.within c.in_ok-terms_of.ensures.grows
     (subst (AreTerms new (map (tree_at store) parts)) c.in-Some.is c.in_ok-terms_of.ensures.terms))
 
 pub returns-clause-entry : goal.returns-clause-entry
 returns-clause-entry c =
     let store = c.args.store.now in
     let mid = c.terms_of.new.store in
-    entry_as c.atom_over.result c.atom_over.new.store (tree_at mid c.args.id) (tree_at store c.args.id) (Grows-tree_at store mid c.args.id c.in_ok-terms_of.ensures.grows c.requires.within)
+    entry_as c.atom_over.result c.atom_over.new.store (tree_at mid c.args.id) (tree_at store c.args.id)
+    (Grows-tree_at store mid c.args.id c.in_ok-terms_of.ensures.grows c.requires.within)
     c.atom_over.ensures.entry

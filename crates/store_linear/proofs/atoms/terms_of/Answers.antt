@@ -23,7 +23,8 @@ returns-in-Wide-clause-terms c =
     let is = sym (get_or_from_slice_get ids at id id c.id_there-id.ensures) in
     let within = below_at ids at id (length entries) c.requires.within l is in
     wide_part store ids at id l is
-    (subst (λ (e : Entry). IsEntryOf store (tree_at store id) e) c.in-Wide.is (entry_there store entries id c.index-entries-id.result c.requires.entries within c.index-entries-id.is))
+    (subst (λ (e : Entry). IsEntryOf store (tree_at store id) e) c.in-Wide.is
+    (entry_there store entries id c.index-entries-id.result c.requires.entries within c.index-entries-id.is))
 
 pub form_term-requires : goal.form_term-requires
 form_term-requires c =
@@ -36,7 +37,8 @@ form_term-requires c =
     let is = sym (get_or_from_slice_get ids at id id c.id_there-id.ensures) in
     let within = below_at ids at id (length entries) c.requires.within l is in
     let there = entry_there store entries id c.index-entries-id.result c.requires.entries within c.index-entries-id.is in
-    atoms_held store c.loop-at.store (tree_at store id) c.in-Form.form (subst (λ (e : Entry). IsEntryOf store (tree_at store id) e) c.in-Form.is there) c.loop-at.invariant.grows
+    atoms_held store c.loop-at.store (tree_at store id) c.in-Form.form
+    (subst (λ (e : Entry). IsEntryOf store (tree_at store id) e) c.in-Form.is there) c.loop-at.invariant.grows
 
 pub loop-at-preserved : goal.loop-at-preserved
 loop-at-preserved c =

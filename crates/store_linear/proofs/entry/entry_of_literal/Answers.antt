@@ -9,4 +9,5 @@ use Rattle.store_linear.proofs.entry.entry_of_literal.Goals as goal
 pub returns : goal.returns
 returns c = λ store.
     narrowed_literal store c.args.z c.of_constant.result c.narrowed.result
-    (subst (λ (k : ℤ). IsForm store c.of_constant.result (constant_form k)) (to_z-of_z w128 c.args.z c.ranges.z) (c.of_constant.ensures store)) c.narrowed.ensures
+    (subst (λ (k : ℤ). IsForm store c.of_constant.result (constant_form k)) (to_z-of_z w128 c.args.z c.ranges.z) (c.of_constant.ensures store))
+    c.narrowed.ensures

@@ -13,6 +13,7 @@ returns-in-Literal-clause-entry c =
     let store = c.args.store.now in
     let z = c.in-Literal.z in
     let fits : SFits w128 z = search rules in
-    let is = shape-tree_at store c.args.id c.view.result.now c.shape.result c.view.ensures.placed c.shape.ensures ∙ ap (shape_tree (stored store)) c.in-Literal.is in
+    let is = shape-tree_at store c.args.id c.view.result.now c.shape.result c.view.ensures.placed c.shape.ensures
+    ∙ ap (shape_tree (stored store)) c.in-Literal.is in
     subst (λ (t : Tree ℕ). IsEntryOf store t c.entry_of_literal.result) (sym is)
     (subst (λ (y : ℤ). IsEntryOf store (literal y) c.entry_of_literal.result) (to_z-of_z w128 z fits) (c.entry_of_literal.ensures store))

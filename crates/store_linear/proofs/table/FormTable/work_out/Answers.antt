@@ -6,7 +6,8 @@ use Rattle.store_entries.proofs.Kept.{AreEntries-grows, AreEntries-more}
 use Rattle.store_linear.proofs.table.FormTable.work_out.Goals as goal
 
 pub returns-in_err-entry-clause-entries : goal.returns-in_err-entry-clause-entries
-returns-in_err-entry-clause-entries c = AreEntries-grows c.terms.store c.entry_of.new.store c.terms.self.entries.items c.entry_of.ensures.grows c.terms.invariant.entries
+returns-in_err-entry-clause-entries c = AreEntries-grows c.terms.store
+    c.entry_of.new.store c.terms.self.entries.items c.entry_of.ensures.grows c.terms.invariant.entries
 
 pub returns-in_err-push-clause-entries : goal.returns-in_err-push-clause-entries
 returns-in_err-push-clause-entries c =
@@ -26,6 +27,7 @@ terms-preserved c =
       grows = Grows-Grows old now new c.terms.invariant.grows c.in_ok-entry.ensures.grows;
       entries =
           subst (AreEntries new) (sym c.in_ok-push.ensures.items)
-          (AreEntries-more now new entries id entry c.in_ok-entry.ensures.grows c.terms.invariant.entries (sym c.terms.invariant.next) here c.in_ok-entry.ensures.entry);
+          (AreEntries-more now new entries id entry c.in_ok-entry.ensures.grows c.terms.invariant.entries
+          (sym c.terms.invariant.next) here c.in_ok-entry.ensures.entry);
       next = omega (arith, c.terms.invariant.next, ap length c.in_ok-push.ensures.items, length_push entries entry);
     }
