@@ -1,0 +1,5 @@
+pub mod Lists
+pub mod Numbers
+pub mod Order
+pub mod Tables
+pub mod Within

@@ -1,0 +1,4 @@
+pub mod Atoms
+pub mod Numbered
+pub mod Systems
+pub mod Views
