@@ -6,6 +6,7 @@ mod methods;
 mod scopes;
 
 pub use methods::judged_method;
+pub use scopes::{enter_body, leave_method};
 
 /// Want of memory.
 pub type NoMemory = std::alloc::AllocError;

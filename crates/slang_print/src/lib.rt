@@ -1,0 +1,50 @@
+//! Printing: a tree as a text that reads back to it, but for the places.
+#![tactic(auto)]
+
+mod files;
+
+ghost use Rattle.lk_io.specs.Run.{run};
+ghost use Rattle.slang_tree.specs.DeclTree.{file_tree};
+ghost use Rattle.print_layout.specs.Declarations.{file_bytes};
+ghost use Rattle.slang_print.specs.Printed.{Prints};
+
+use files::add_file;
+use lk_io::{GiveEnd, Sink, give_all};
+use slang_tree::File;
+use std::alloc::{AllocError, Global};
+use thiserror::Error;
+
+/// Why a text was not printed to its end.
+#[derive(Debug, Drop, Error)]
+pub enum PrintEnd {
+    /// The sink failed behind so many bytes.
+    #[error("writing failed behind {out} bytes")]
+    WriteFault { out: u64 },
+    #[error("out of memory")]
+    NoMemory,
+}
+
+impl From<AllocError> for PrintEnd {
+    ghost use Rattle.std.specs.Prelude.{◌≡◌};
+    ghost use Rattle.slang_print.specs.declared.PrintEnd.TheVariants.{NoMemory};
+
+    ghost from_gives = { λ failed end. end ≡ NoMemory };
+
+    fn from(_end: AllocError) -> PrintEnd {
+        PrintEnd::NoMemory
+    }
+}
+
+/// Gives a text of the declarations to a sink, two blanks a level and with brackets only where they are needed. What
+/// was given is a front of that text, and the whole of it on `Ok`.
+pub fn print_file<S: Sink>(alloc: Global, file: &File, out: &mut S) -> Result<(), PrintEnd>
+    ensures { Prints (run (S.state out.old) (S.state out.new)) (file_bytes (file_tree file.now)) result }
+{
+    let mut text = Vec::new(alloc);
+    add_file(file.items.as_slice(), &mut text)?;
+    match give_all(out, text.as_slice()) {
+        Ok(()) => Ok(()),
+        Err(GiveEnd::Failed { out: given }) => Err(PrintEnd::WriteFault { out: given as u64 }),
+        Err(GiveEnd::NoMemory { .. }) => Err(PrintEnd::NoMemory),
+    }
+}
