@@ -1,5 +1,5 @@
 -- How a method begins, by its parts.
-use Rattle.std.proofs.Common.{◌≡◌, ℕ, ◌≤◌, List, map, length, sym, ap, ap₂, ◌∙◌}
+use Rattle.std.proofs.Common.{◌≡◌, ℕ, ◌<◌, ◌≤◌, List, map, length, sym, ap, ap₂, ◌∙◌}
 use Rattle.std.proofs.lemmas.List.{length-map}
 use Rattle.slang_values.specs.Value.{ValueType}
 use Rattle.program_trees.specs.Programs.{ProgramTree, MethodTree, renamed_method}
@@ -22,13 +22,18 @@ module _ (program : ProgramTree Variable) (number : ℕ) (method : Method) (env 
   pub locals_are : (method_at program number).locals ≡ map value_type method.locals
   locals_are = ap (λ (m : MethodTree Variable). m.locals) is
 
+  -- as many locals
+  pub count_is : length (method_at program number).locals ≡ length method.locals
+  count_is = ap (λ (ts : List ValueType). length ts) locals_are ∙ length-map method.locals value_type
+
   pub result_is : (method_at program number).result ≡ value_type method.result
   result_is = ap (λ (m : MethodTree Variable). m.result) is
 
-  pub is_of : (arguments globals : ℕ) → arguments ≤ length method.locals → globals ≡ length program.globals
+  pub is_of : (arguments globals : ℕ) → number < length program.methods → arguments ≤ length method.locals → globals ≡ length program.globals
       → EnteredCounts arguments (length method.locals) globals env → IsOf program number env
-  is_of arguments globals few same counts = record {
-    locals = counts.locals few ∙ sym (ap (λ (ts : List ValueType). length ts) locals_are ∙ length-map method.locals value_type);
+  is_of arguments globals there few same counts = record {
+    there = there;
+    locals = counts.locals few ∙ sym count_is;
     globals = counts.globals ∙ same;
     entry = counts.entry ∙ same;
   }

@@ -1,5 +1,5 @@
 -- The methods of a program, and claims over the variables of an environment.
-use Rattle.std.proofs.Common.{◌≡◌, ℕ, zero, suc, List, [], ◌∷◌, map, length, get_or, Some, refl, sym, ap, ap₂, ◌∙◌}
+use Rattle.std.proofs.Common.{◌≡◌, ℕ, zero, suc, ◌<◌, List, [], ◌∷◌, map, length, get_or, Some, refl, sym, ap, ap₂, ◌∙◌, arith}
 use Rattle.std.specs.Prelude.{slice_get}
 use Rattle.std.proofs.lemmas.List.{length-map}
 use Rattle.program_trees.specs.Claims.{renamed_noted}
@@ -23,7 +23,18 @@ there f g [] n x past h = absurd (cc)
 there f g (y ∷ xs) zero x past h = ap (λ z. g (f z)) (some_inj h)
 there f g (y ∷ xs) (suc n) x past h = there f g xs n x past h
 
+-- the element at a place that is there
+pub taken : {A : Type 0} (xs : List A) (n : ℕ) (x : A) → n < length xs → x ≡ get_or xs n x → slice_get xs n ≡ Some x
+taken [] n x h is = absurd (omega (arith, h))
+taken (y ∷ xs) zero x h is = ap Some (sym is)
+taken (y ∷ xs) (suc n) x h is = taken xs n x (omega (arith, h)) is
+
 module _ (typed : Typed) where
+  pub methods_count : length (program_of typed).methods ≡ length typed.methods
+  methods_count =
+      length-map (map method_tree typed.methods) (λ m. renamed_method (variable_of (length m.locals) (length (map global_tree typed.globals))) m)
+      ∙ length-map typed.methods method_tree
+
   globals_count : length (map global_tree typed.globals) ≡ length (program_of typed).globals
   globals_count = sym (length-map (map global_tree typed.globals) (renamed_global global))
 

@@ -1,6 +1,5 @@
 -- The methods of a program, and how one begins.
-use Rattle.std.specs.Prelude.{◌≡◌, ℕ, ⊤, length, List, Option, Some, None, Result}
-use Rattle.std.specs.Borrow.{Bor}
+use Rattle.std.specs.Prelude.{◌≡◌, ℕ, length, List, Result}
 use Rattle.slang_values.specs.Value as plain
 use Rattle.program_trees.specs.Programs.{ProgramTree, renamed_method}
 use Rattle.program_trees.specs.Variables.{Variable, variable_of}
@@ -17,10 +16,9 @@ use Rattle.run_steps.specs.declared.ending.RunEnd.{RunEnd}
 use Rattle.run_steps.specs.Ends.{Gives}
 
 -- the method of that number, over variables by their kinds
-abbrev pub IsMethod : ProgramTree Variable → ℕ → Option (Bor Method) → Type 0
-IsMethod program number None = ⊤
-IsMethod program number (Some method) =
-    method_at program number ≡ renamed_method (variable_of (length (method_tree method.now).locals) (length program.globals)) (method_tree method.now)
+abbrev pub IsMethod : ProgramTree Variable → ℕ → Method → Type 0
+IsMethod program number method =
+    method_at program number ≡ renamed_method (variable_of (length (method_tree method).locals) (length program.globals)) (method_tree method)
 
 -- The method begins with these arguments where the globals have these values, and its Requires hold.
 abbrev pub Enters : (limit : ℕ) → ProgramTree Variable → (number : ℕ) → List plain.Value → List Value → (node : ℕ) → Result Env RunEnd → Type 0

@@ -1,7 +1,7 @@
 -- What a statement does, and what comes next.
-use Rattle.std.specs.Prelude.{◌≡◌, ℕ, true, not, length, Result, ⊤}
+use Rattle.std.specs.Prelude.{◌≡◌, ℕ, ◌<◌, ◌≤◌, true, not, length, Result, ⊤}
 use Rattle.std.specs.Option.{option_map}
-use Rattle.program_trees.specs.Programs.{CodeTree, renamed_code, ProgramTree}
+use Rattle.program_trees.specs.Programs.{CodeTree, set, give, assert, deduce, branch, loop, call, renamed_code, ProgramTree}
 use Rattle.program_trees.specs.Variables.{Variable, with_kinds}
 use Rattle.run_rules.specs.Runs.{method_at, Stack, begin, again, back}
 use Rattle.lk_programs.specs.declared.typed.Typed.{Typed}
@@ -26,11 +26,23 @@ program_of typed = with_kinds (program_tree typed)
 abbrev pub code_in : Env → Code → CodeTree Variable
 code_in env code = renamed_code (variable_in env) (code_tree code)
 
--- The environment has the variables of the method of that number.
+-- There is a method of that number, and the environment has its variables.
 pub record IsOf (program : ProgramTree Variable) (method : ℕ) (env : Env) : Type 0 where
+  pub there : method < length program.methods
   pub locals : length env.locals ≡ length (method_at program method).locals
   pub globals : length env.globals ≡ length program.globals
   pub entry : length env.entry ≡ length program.globals
+
+-- A call calls a method that is there, with no more arguments than the method has locals.
+abbrev pub CanCall : ProgramTree Variable → CodeTree Variable → Type 0
+CanCall program (set node target value) = ⊤
+CanCall program (give node value) = ⊤
+CanCall program (assert noted) = ⊤
+CanCall program (deduce node steps) = ⊤
+CanCall program (branch node test on_true on_false) = ⊤
+CanCall program (loop node test modifies invariants body) = ⊤
+CanCall program (call node target name_node number arguments) =
+    (number < length program.methods) × (length arguments ≤ length (method_at program number).locals)
 
 -- The statement `code`, begun in one environment, leaves the other.
 module _ (program : ProgramTree Variable) (code : CodeTree Variable) (new : Env) where

@@ -1,4 +1,4 @@
-ghost use Rattle.std.specs.Prelude.{◌≡◌, ℕ, length, map, IfOk, Option, List};
+ghost use Rattle.std.specs.Prelude.{◌≡◌, ℕ, ◌<◌, ◌≤◌, length, map, IfOk, Option, List};
 ghost use Rattle.std.specs.Option.{option_map};
 ghost use Rattle.program_trees.specs.Programs.{ProgramTree, MethodTree, call as call_tree, renamed_method};
 ghost use Rattle.program_trees.specs.Variables.{Variable, variable_of, global};
@@ -22,7 +22,7 @@ use expression_values::Env;
 use lk_programs::{Expr, Method, NodeNo, Typed};
 use run_entering::entered;
 use run_values::Value;
-use sqlite_items::{Items, at};
+use sqlite_items::Items;
 use std::alloc::Global;
 
 /// A call begins its method, from the values of its arguments.
@@ -36,7 +36,9 @@ pub fn call(
     arguments: &[Expr],
     limit: u64,
 ) -> Result<Next, RunEnd>
-    requires { length env.now.globals ≡ length (program_of typed.now).globals }
+    requires globals { length env.now.globals ≡ length (program_of typed.now).globals }
+    requires there { number < length (program_of typed.now).methods }
+    requires few { length arguments.now ≤ length (method_at (program_of typed.now) number).locals }
     ensures does { (node : ℕ) → Does limit (program_of typed.now) (call_tree node (option_map (variable_in env.now) target) name.0 number
         (arguments_in env.now arguments.now)) env.now env.now result }
     ensures begins { IfOk result (BeginsOf (program_of typed.now)) }
@@ -68,49 +70,43 @@ pub fn begin_call(
     node: NodeNo,
     limit: u64,
 ) -> Result<Env, RunEnd>
-    requires { length globals.now ≡ length (program_of typed.now).globals }
+    requires globals { length globals.now ≡ length (program_of typed.now).globals }
+    requires there { number < length (program_of typed.now).methods }
+    requires few { length arguments ≤ length (method_at (program_of typed.now) number).locals }
     ensures enters { Enters limit (program_of typed.now) number (map plain_value arguments) globals.now node.0 result }
     ensures begins { IfOk result (IsOf (program_of typed.now) number) }
 {
-    match method_at(typed, number) {
-        None => Err(RunEnd::NoMemory),
-        Some(method) => {
-            if arguments.len() > method.locals.len() {
-                Err(RunEnd::NoMemory)
-            } else {
-                let records = typed.records.as_slice();
-                match entered(
-                    alloc,
-                    records,
-                    method.locals.as_slice(),
-                    &method.result,
-                    arguments,
-                    globals,
-                ) {
-                    Err(_) => Err(RunEnd::NoMemory),
-                    Ok(env) => match tested_at(
-                        alloc,
-                        records,
-                        method.requires_.as_slice(),
-                        &env,
-                        limit,
-                        node,
-                    ) {
-                        Err(end) => Err(end),
-                        Ok(()) => Ok(env),
-                    },
-                }
-            }
-        }
+    let method = method_at(typed, number);
+    let records = typed.records.as_slice();
+    match entered(
+        alloc,
+        records,
+        method.locals.as_slice(),
+        &method.result,
+        arguments,
+        globals,
+    ) {
+        Err(_) => Err(RunEnd::NoMemory),
+        Ok(env) => match tested_at(
+            alloc,
+            records,
+            method.requires_.as_slice(),
+            &env,
+            limit,
+            node,
+        ) {
+            Err(end) => Err(end),
+            Ok(()) => Ok(env),
+        },
     }
 }
 
-/// The method of that number, where there is one.
-pub fn method_at(typed: &Typed, number: u32) -> Option<&Method>
-    ensures { IsMethod (program_of typed.now) number result }
+/// The method of that number.
+pub fn method_at(typed: &Typed, number: u32) -> &Method
+    requires { number < length (program_of typed.now).methods }
+    ensures { IsMethod (program_of typed.now) number result.now }
 {
-    match at(typed.methods.as_slice(), number as usize) {
-        None => None,
-        Some(method) => Some(method),
-    }
+    let place = number as usize;
+    let methods = typed.methods.as_slice();
+    &methods[place]
 }

@@ -1,6 +1,6 @@
 ghost use Rattle.std.specs.Prelude.{◌≡◌, length, IfOk};
 ghost use Rattle.run_variables.specs.Counts.{HasEntries, SameCounts};
-ghost use Rattle.run_steps.specs.Steps.{Does, program_of, code_in, BeginsOf};
+ghost use Rattle.run_steps.specs.Steps.{Does, program_of, code_in, CanCall, BeginsOf};
 ghost use Rattle.std.specs.Prelude.{ℕ};
 ghost use Rattle.program_trees.specs.Programs.{ProgramTree, CodeTrees, branch, assert as assert_tree};
 ghost use Rattle.program_trees.specs.Variables.{Variable};
@@ -27,6 +27,7 @@ pub fn begin(
 ) -> Result<Next, RunEnd>
     requires entries { HasEntries env.old }
     requires globals { length env.old.globals ≡ length (program_of typed.now).globals }
+    requires calls { CanCall (program_of typed.now) (code_in env.old code.now) }
     ensures does { Does limit (program_of typed.now) (code_in env.old code.now) env.old env.new result }
     ensures counts { SameCounts env.old env.new }
     ensures begins { IfOk result (BeginsOf (program_of typed.now)) }

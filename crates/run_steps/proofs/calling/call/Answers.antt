@@ -1,4 +1,4 @@
-use Rattle.std.proofs.Common.{sym, subst, ap, ◌∙◌, List, map}
+use Rattle.std.proofs.Common.{ℕ, ◌≤◌, length, sym, subst, ap, ◌∙◌, List, map}
 use Rattle.std.specs.Prelude.{Ok, Err}
 use Rattle.run_values.specs.declared.value.Value.{Value}
 use Rattle.run_values.specs.Value.{plain_value}
@@ -13,7 +13,14 @@ use Rattle.stopped_runs.specs.Runs.{Stopped, reached, on_test}
 use Rattle.stopped_runs.specs.Tests.{test}
 use Rattle.run_steps.specs.Steps.{program_of}
 use Rattle.run_steps.specs.Ends.{Tells}
+use Rattle.run_steps.proofs.Values.{values_count}
 use Rattle.run_steps.proofs.calling.call.Goals as goal
+
+pub begin_call-requires-clause-few : goal.begin_call-requires-clause-few
+begin_call-requires-clause-few c =
+    let program = program_of c.args.typed.now in
+    subst (λ (n : ℕ). n ≤ length (method_at program c.args.number).locals)
+    (sym (values_count program c.args.env.now c.args.arguments.now c.in-Ok.values (c.in-Ok.ensures program).1)) c.requires.few
 
 pub returns-in-Err-clause-does : goal.returns-in-Err-clause-does
 returns-in-Err-clause-does c node more rest = c.in-Err.ensures (program_of c.args.typed.now) _

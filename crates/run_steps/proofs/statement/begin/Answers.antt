@@ -1,14 +1,16 @@
-use Rattle.std.proofs.Common.{refl, ap, sym, subst, ◌∙◌, List}
+use Rattle.std.proofs.Common.{ℕ, ◌≤◌, length, refl, ap, sym, subst, ◌∙◌, List}
 use Rattle.std.specs.Prelude.{Ok}
 use Rattle.std.specs.Option.{option_map}
-use Rattle.program_trees.specs.Programs.{call}
+use Rattle.program_trees.specs.Programs.{CodeTree, call, renamed_code}
+use Rattle.run_rules.specs.Runs.{method_at}
 use Rattle.lk_programs.specs.declared.expression.Expr.{Expr}
 use Rattle.expression_values.specs.Environment.{variable_in}
 use Rattle.lk_programs.specs.Program.{code_tree, record_types}
 use Rattle.lk_programs.proofs.Codes.{code_tree-Val, code_tree-Assign, code_tree-Call, code_tree-If}
 use Rattle.lk_programs.proofs.Codes.{code_tree-While, code_tree-Assert, code_tree-Deduce, code_tree-Return}
 use Rattle.run_steps.specs.Arguments.{arguments_in}
-use Rattle.run_steps.specs.Steps.{program_of, Does}
+use Rattle.run_steps.specs.Steps.{program_of, CanCall, Does}
+use Rattle.run_steps.proofs.Values.{arguments_count}
 use Rattle.run_steps.specs.declared.ending.Next.TheVariants as n
 use Rattle.run_steps.proofs.Begins.{over}
 use Rattle.run_steps.proofs.statement.begin.Goals as goal
@@ -73,3 +75,18 @@ returns-in-Call-clause-does c =
     (call c.in-Call.node.0 (option_map (variable_in env) c.in-Call.target) c.in-Call.name.0 c.in-Call.method
     (arguments_in env arguments)) env env c.call.result)
     c.as_slice-in-Call.ensures (c.call.ensures.does c.in-Call.node.0))
+
+pub call-requires-clause-there : goal.call-requires-clause-there
+call-requires-clause-there c =
+    let program = program_of c.args.typed.now in
+    let env = c.args.env.now in
+    (subst (λ (t : CodeTree ℕ). CanCall program (renamed_code (variable_in env) t)) (ap code_tree c.in-Call.is ∙ code_tree-Call _ _ _ _ _) c.requires.calls).0
+
+pub call-requires-clause-few : goal.call-requires-clause-few
+call-requires-clause-few c =
+    let program = program_of c.args.typed.now in
+    let env = c.args.env.now in
+    let called = subst (λ (t : CodeTree ℕ). CanCall program (renamed_code (variable_in env) t))
+    (ap code_tree c.in-Call.is ∙ code_tree-Call _ _ _ _ _) c.requires.calls in
+    subst (λ (n : ℕ). n ≤ length (method_at program c.in-Call.method).locals)
+    (arguments_count program env c.in-Call.arguments ∙ ap (λ (exprs : List Expr). length exprs) (sym c.as_slice-in-Call.ensures)) called.1
