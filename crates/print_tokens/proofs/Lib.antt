@@ -1,0 +1,4 @@
+pub mod Bare
+pub mod Names
+pub mod Weight
+pub mod Whole
