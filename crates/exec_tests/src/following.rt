@@ -9,10 +9,12 @@ use std::test::Fail;
 use sym_exec::{Exec, ExecEnd, Next};
 use term_store::TermStore;
 
-/// What a call gave: of a check its item and kind, and how many symbols and facts its sequent has, with its goal.
+/// What a call gave: of a check its item and kind, and how many symbols and facts its sequent has, with its goal; of a proof its item, and how
+/// many symbols and facts its base has, with how many steps stand outermost.
 #[derive(Clone, Copy, PartialEq, Eq)]
 pub enum Seen {
     Check(u32, Kind, usize, usize, usize),
+    Proof(u32, usize, usize, usize),
     Done,
     Size(u32, Kind),
     NoMemory,
@@ -33,6 +35,9 @@ fn told(next: Result<Next, ExecEnd>) -> Seen {
             sequent.facts.len(),
             sequent.goal,
         ),
+        Ok(Next::Proof { item, base, steps }) => {
+            Seen::Proof(item, base.sorts.len(), base.facts.len(), steps.len())
+        }
         Ok(Next::Done) => Seen::Done,
         Err(ExecEnd::Size { item, kind }) => Seen::Size(item, kind),
         Err(ExecEnd::NoMemory) => Seen::NoMemory,

@@ -8,4 +8,6 @@ mod following;
 #[cfg(test)]
 mod items;
 #[cfg(test)]
+mod proving;
+#[cfg(test)]
 mod readable;

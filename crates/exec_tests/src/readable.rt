@@ -3,13 +3,15 @@
 ghost use Rattle.std.specs.Prelude.{◌≡◌, ◌<◌, true, map, length, IsTrue};
 ghost use Rattle.std.specs.List.{All};
 ghost use Rattle.lk_claims.specs.Claim.{claim_tree, value_type};
+ghost use Rattle.lk_claims.specs.Step.{step_tree, step_trees};
 ghost use Rattle.lk_programs.specs.LegData.{item_tree};
 ghost use Rattle.leg_sorts.specs.Sorts.{has_sort, HaveSorts};
 ghost use Rattle.claim_reading.specs.Readable.{IsReadable};
+ghost use Rattle.step_terms.specs.Steps.{IsReadableStep, AreReadableSteps};
 ghost use Rattle.item_terms.specs.Items.{IsReadableItem};
 ghost use Rattle.sym_exec.specs.Steps.{IsReadableLeg};
 
-use lk_claims::{Claim, Shape, Ty};
+use lk_claims::{Claim, ProofStep, Shape, Ty};
 use lk_programs::{Item, Leg};
 
 #[tactic(auto, using(lk_claims::proofs::Types::type_lines))]
@@ -39,6 +41,7 @@ fn is_readable_claim(count: usize, claim: &Claim) -> bool
 {
     match claim.shape() {
         Shape::Literal(_) | Shape::Truth(_) => true,
+        Shape::LetSymbol(_) => true,
         Shape::Variable(x) => (x as usize) < count,
         Shape::Unary(_, a) => is_readable_claim(count, a),
         Shape::Binary(_, a, b) => is_readable_claim(count, a) && is_readable_claim(count, b),
@@ -57,6 +60,32 @@ fn are_within(count: usize, xs: &[u32]) -> bool
     true
 }
 
+/// A block is only told to be readable where it has no steps.
+#[tactic(auto, using(lk_claims::proofs::Steps::step_lines))]
+fn is_readable_step(count: usize, step: &ProofStep) -> bool
+    ensures { IsTrue result → IsReadableStep count (step_tree step.now) }
+{
+    match step {
+        ProofStep::Line { claim, .. } => is_readable_claim(count, claim),
+        ProofStep::Sub {
+            assumption,
+            steps,
+            ..
+        } => steps.is_empty() && is_readable_claim(count, assumption),
+    }
+}
+
+fn are_readable_steps(count: usize, steps: &[ProofStep]) -> bool
+    ensures { IsTrue result → AreReadableSteps count (step_trees steps.now) }
+{
+    for step in steps {
+        if !is_readable_step(count, step) {
+            return false;
+        }
+    }
+    true
+}
+
 fn is_readable_item(count: usize, item: &Item) -> bool
     ensures { IsTrue result → IsReadableItem count (item_tree item.now) }
 {
@@ -65,7 +94,7 @@ fn is_readable_item(count: usize, item: &Item) -> bool
         Item::Check(_, claim) => is_readable_claim(count, claim),
         Item::Set(x, claim) => (*x as usize) < count && is_readable_claim(count, claim),
         Item::Fresh(xs) => are_within(count, xs.as_slice()),
-        Item::Proof(_) => false,
+        Item::Proof(steps) => are_readable_steps(count, steps.as_slice()),
     }
 }
 

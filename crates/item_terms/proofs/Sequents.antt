@@ -16,6 +16,6 @@ pub sequent_by_parts : (store : List Node) (state : LegState) (records : List (L
 sequent_by_parts store state records it goal s r f g =
     λ i. record { types = map sort_type (s i); records = map (map sort_type) (r i); facts = map (tree_at store) (f i); goal = tree_at store (g i) }
 
-pub sequent_within : (store : List Node) (facts : List ℕ) (goal : ℕ) (it : IdSequent) → it.facts ≡ facts → it.goal ≡ goal → AreWithin store facts → goal < length store
-    → IsSequentWithin store it
+pub sequent_within : (store : List Node) (facts : List ℕ) (goal : ℕ) (it : IdSequent) → it.facts ≡ facts → it.goal ≡ goal → AreWithin store facts
+    → goal < length store → IsSequentWithin store it
 sequent_within store facts goal it f g h l = record { facts = subst (AreWithin store) (sym f) h; goal = subst (λ n. n < length store) (sym g) l }

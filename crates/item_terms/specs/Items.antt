@@ -1,8 +1,8 @@
 -- One item of a leg: what it asks for, the terms that it forms, and the state behind it.
-use Rattle.std.specs.Prelude.{◌≡◌, ℕ, ◌<◌, Bool, true, false, List, [], ◌∷◌, length, ⊤}
+use Rattle.std.specs.Prelude.{ℕ, ◌<◌, Bool, true, List, [], ◌∷◌, length, ⊤}
 use Rattle.std.specs.List.{All}
 use Rattle.slang_values.specs.Value.{ValueType, Records}
-use Rattle.slang_values.specs.Tree.{Tree}
+use Rattle.slang_values.specs.Tree.{Tree, truth_literal}
 use Rattle.program_trees.specs.declared.answer.Kind.{Kind}
 use Rattle.program_trees.specs.declared.answer.Kind.TheVariants as kinds
 use Rattle.program_trees.specs.Legs.{ItemTree, assume, check, set, fresh, proof}
@@ -13,8 +13,9 @@ use Rattle.leg_rules.specs.Store.{State, read_claim, with_fact, set_variable, ma
 use Rattle.leg_rules.specs.Sequents.{Obligation, to_show, to_accept, read_term, step_terms, after_steps, are_small_steps, outermost, sequent, base, with_facts}
 use Rattle.claim_reading.specs.Readable.{IsReadable}
 use Rattle.leg_states.specs.State.{taken_by_each}
-use Rattle.item_terms.specs.declared.end.Asked.{Asked}
-use Rattle.item_terms.specs.declared.end.ItemEnd.{ItemEnd}
+use Rattle.deduction.specs.Steps as term_steps
+use Rattle.step_terms.specs.Steps.{AreReadableSteps, steps_subtrees}
+use Rattle.item_terms.specs.declared.asked.Asked.{Asked}
 
 -- the kind under which a term of the item that is past a limit is told
 abbrev pub item_kind : ItemTree ℕ → Kind
@@ -24,13 +25,13 @@ item_kind (set x claim) = kinds.Term
 item_kind (fresh xs) = kinds.Term
 item_kind (proof steps) = kinds.Deduce
 
--- The variables that it names are there, and it is no proof.
+-- The variables that it names are there.
 abbrev pub IsReadableItem : ℕ → ItemTree ℕ → Type 0
 IsReadableItem count (assume claim) = IsReadable count claim
 IsReadableItem count (check kind claim) = IsReadable count claim
 IsReadableItem count (set x claim) = (x < count) × IsReadable count claim
 IsReadableItem count (fresh xs) = All (λ x. x < count) xs
-IsReadableItem count (proof steps) = ⊥
+IsReadableItem count (proof steps) = AreReadableSteps count steps
 
 module _ (types : List ValueType) where
   abbrev pub after_item : State → ItemTree ℕ → State
@@ -56,13 +57,14 @@ module _ (types : List ValueType) where
   asked records place state (fresh xs) = []
   asked records place state (proof steps) = to_accept place (base records (after_steps types state steps)) (step_terms types state steps) ∷ []
 
-  -- The trees that a store may gain at it: the terms that it forms and their subtrees. A variable that is made fresh has its symbol.
+  -- The trees that a store may gain at it: the terms that it forms and their subtrees. A variable that is made fresh has its symbol, and the base
+  -- of a proof has a goal.
   abbrev pub gained : State → ItemTree ℕ → List (Tree ℕ)
   gained state (assume claim) = subtrees (read_term types state claim)
   gained state (check kind claim) = subtrees (read_term types state claim)
   gained state (set x claim) = subtrees (read_term types state claim)
   gained state (fresh xs) = taken_by_each xs (length state.sorts)
-  gained state (proof steps) = []
+  gained state (proof steps) = truth_literal true ∷ steps_subtrees (step_terms types state steps)
 
 -- ---- answers
 
@@ -70,12 +72,9 @@ module _ (types : List ValueType) where
 abbrev pub asked_at : List Node → ℕ → Kind → Asked → List Obligation
 asked_at store place kind Asked.Nothing = []
 asked_at store place kind (Asked.Sequent it) = to_show place kind (sequent_at store it) ∷ []
+asked_at store place kind (Asked.Proof base steps) = to_accept place (sequent_at store base) (term_steps.step_trees steps) ∷ []
 
 abbrev pub IsAskedWithin : List Node → Asked → Type 0
 IsAskedWithin store Asked.Nothing = ⊤
 IsAskedWithin store (Asked.Sequent it) = IsSequentWithin store it
-
--- Size comes where a term is past a limit.
-abbrev pub IsPast : ItemEnd → Bool → Type 0
-IsPast ItemEnd.Size small = small ≡ false
-IsPast ItemEnd.NoMemory small = ⊤
+IsAskedWithin store (Asked.Proof base steps) = IsSequentWithin store base

@@ -3,14 +3,17 @@ ghost use Rattle.term_trees.specs.Term.{sort_type};
 ghost use Rattle.term_store.specs.Store.{GainsAmong};
 ghost use Rattle.lk_programs.specs.LegData.{item_tree};
 ghost use Rattle.leg_states.specs.State.{state_of, IsOver};
-ghost use Rattle.item_terms.specs.Items.{after_item, is_small_item, asked, asked_at, IsAskedWithin, item_kind, gained, IsPast, IsReadableItem};
+ghost use Rattle.step_terms.specs.Steps.{IsPast};
+ghost use Rattle.item_terms.specs.Items.{after_item, is_small_item, asked, asked_at, IsAskedWithin, item_kind, gained, IsReadableItem};
 
-use crate::end::{Asked, ItemEnd};
-use crate::steps::{assume, check, set};
+use crate::asked::Asked;
+use crate::claims::{assume, check, set};
+use crate::proof::take_proof;
 use leg_states::LegState;
 use lk_programs::Item;
 use sqlite_items::Items;
 use std::alloc::Global;
+use step_terms::ItemEnd;
 use term_store::TermStore;
 use term_trees::Sort;
 
@@ -51,6 +54,6 @@ pub fn take_item(
             state.make_fresh(alloc, store, sorts, xs.as_slice())?;
             Ok(Asked::Nothing)
         }
-        Item::Proof(_) => unreachable!(),
+        Item::Proof(steps) => { take_proof(alloc, store, state, sorts, records, steps.as_slice()) }
     }
 }

@@ -1,13 +1,15 @@
-//! What one item of a leg asks for, as a sequent of numbers of a store, and the state of the leg behind it.
+//! What one item of a leg asks for, as numbers of a store, and the state of the leg behind it.
 #![tactic(auto)]
 
-mod end;
+mod asked;
+mod claims;
 mod item;
+mod proof;
 mod sequent;
-mod steps;
 
-pub use end::{Asked, ItemEnd};
+pub use asked::Asked;
 pub use item::take_item;
+pub use step_terms::ItemEnd;
 
 /// Want of memory.
 pub type NoMemory = std::alloc::AllocError;

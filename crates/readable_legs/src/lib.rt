@@ -1,4 +1,4 @@
-//! Which legs can be followed over a store: each well-formed one without proofs.
+//! Which legs can be followed over a store: each well-formed one.
 //!
 //! The function has no code: its contract is a law, so that the check of this crate proves it.
 #![tactic(auto)]

@@ -1,5 +1,6 @@
 -- What one item adds to what is to be shown.
-use Rattle.std.proofs.Common.{◌≡◌, ℕ, zero, suc, ◌+◌, ◌<◌, ◌≤◌, true, List, [], ◌∷◌, ◌++◌, map, drop, length, get_or, Option, refl, sym, ap, ap₂, ◌∙◌, subst, arith}
+use Rattle.std.proofs.Common.{◌≡◌, ℕ, zero, suc, ◌+◌, ◌<◌, ◌≤◌, true, List, [], ◌∷◌, ◌++◌}
+use Rattle.std.proofs.Common.{map, drop, length, get_or, Option, refl, sym, ap, ap₂, ◌∙◌, subst, arith}
 use Rattle.std.specs.List.{Contains}
 use Rattle.std.proofs.lemmas.List.Elements.{Contains-append_left, Contains-append_right}
 use Rattle.slang_values.specs.Value.{ValueType, Records}
@@ -12,9 +13,10 @@ use Rattle.lk_programs.specs.declared.leg.Item.{Item}
 use Rattle.lk_programs.specs.LegData.{item_tree}
 use Rattle.leg_rules.specs.Store.{State}
 use Rattle.leg_rules.specs.Sequents.{too_large, where_small, obligations_from}
-use Rattle.item_terms.specs.Items.{item_kind, after_item, is_small_item, asked, asked_at, gained, IsPast}
-use Rattle.item_terms.specs.declared.end.Asked.{Asked}
-use Rattle.item_terms.specs.declared.end.ItemEnd.{ItemEnd}
+use Rattle.item_terms.specs.Items.{item_kind, after_item, is_small_item, asked, asked_at, gained}
+use Rattle.step_terms.specs.Steps.{IsPast}
+use Rattle.step_terms.specs.declared.end.ItemEnd.{ItemEnd}
+use Rattle.item_terms.specs.declared.asked.Asked.{Asked}
 use Rattle.sym_exec.specs.Steps.{gained_along, passed_obligations, end_at, IsEndOf}
 use Rattle.sym_exec.specs.declared.end.Next.{Next}
 
@@ -96,8 +98,8 @@ module _ (types : List ValueType) where
         among = λ k l h. Contains-append_left (gained types state item) (gained_along types (after_item types state item) rest) _ (g.among k l h);
       })
 
-  pub gained_later : (state state' : State) (items rest : List (ItemTree ℕ)) (item : ItemTree ℕ) (u : Tree ℕ) → items ≡ item ∷ rest → state' ≡ after_item types state item
-      → Contains (gained_along types state' rest) u → Contains (gained_along types state items) u
+  pub gained_later : (state state' : State) (items rest : List (ItemTree ℕ)) (item : ItemTree ℕ) (u : Tree ℕ) → items ≡ item ∷ rest
+      → state' ≡ after_item types state item → Contains (gained_along types state' rest) u → Contains (gained_along types state items) u
   gained_later state state' items rest item u is moves h =
       subst (λ ts. Contains (gained_along types state ts) u) (sym is)
       (Contains-append_right (gained types state item) (gained_along types (after_item types state item) rest) u

@@ -15,7 +15,8 @@ use Rattle.sym_exec.specs.Laws.{ExecGrowthLaws}
 pub both_shown : {A B : Type 0} (P : A → B → Type 0) {a shown_a : A} {b shown_b : B} → shown_a ≡ a → shown_b ≡ b → P shown_a shown_b → P a b
 both_shown P {a} {shown_a} {b} {shown_b} e f p = subst (λ y. P a y) f (subst (λ x. P x shown_b) e p)
 
-pub as_many_sorts : (types : List Ty) (shown : List Ty) (sorts : List Sort) → shown ≡ types → map sort_type sorts ≡ map value_type shown → length types ≡ length sorts
+pub as_many_sorts : (types : List Ty) (shown : List Ty) (sorts : List Sort) → shown ≡ types → map sort_type sorts ≡ map value_type shown
+    → length types ≡ length sorts
 as_many_sorts types shown sorts e f =
     sym (length-map types value_type) ∙ ap length (sym (f ∙ ap (map value_type) e)) ∙ length-map sorts sort_type
 

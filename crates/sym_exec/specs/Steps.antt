@@ -12,10 +12,11 @@ use Rattle.lk_programs.specs.declared.leg.Leg.{Leg}
 use Rattle.lk_programs.specs.LegData.{item_tree}
 use Rattle.leg_sorts.specs.Sorts.{HaveSorts}
 use Rattle.leg_rules.specs.Store.{State}
-use Rattle.leg_rules.specs.Sequents.{Obligation, to_show, too_large, obligations_from}
+use Rattle.leg_rules.specs.Sequents.{Obligation, to_show, to_accept, too_large, obligations_from}
 use Rattle.leg_states.specs.State.{state_of, IsOver}
 use Rattle.item_terms.specs.Items.{IsReadableItem, after_item, gained}
-use Rattle.item_terms.specs.declared.end.ItemEnd.{ItemEnd}
+use Rattle.deduction.specs.Steps as term_steps
+use Rattle.step_terms.specs.declared.end.ItemEnd.{ItemEnd}
 use Rattle.sym_exec.specs.declared.exec.Exec.{Exec}
 use Rattle.sym_exec.specs.declared.end.Next.{Next}
 use Rattle.sym_exec.specs.declared.end.Next.TheVariants as n
@@ -24,7 +25,7 @@ use Rattle.sym_exec.specs.declared.end.ExecEnd.TheVariants as e
 
 -- ---- legs
 
--- Its types have sorts, the variables that it names are there, and it has no proofs.
+-- Its types have sorts, and the variables that it names are there.
 pub record IsReadableLeg (leg : Leg) : Type 0 where
   pub variables : HaveSorts leg.vars
   pub records : All HaveSorts leg.records
@@ -66,6 +67,7 @@ IsAhead store exec store' exec' leg = (u : Tree ℕ) → Contains (gained_ahead 
 -- what the answer is, by the trees of the store
 abbrev pub next_obligations : List Node → Next → List Obligation
 next_obligations store (n.Check item kind sequent) = to_show item kind (sequent_at store sequent) ∷ []
+next_obligations store (n.Proof item base steps) = to_accept item (sequent_at store base) (term_steps.step_trees steps) ∷ []
 next_obligations store n.Done = []
 
 abbrev pub passed_obligations : List Node → Option Next → List Obligation
@@ -75,6 +77,7 @@ passed_obligations store (Some next) = next_obligations store next
 -- a sequent whose numbers are in the store
 abbrev pub IsAsking : List Node → Next → Type 0
 IsAsking store (n.Check item kind sequent) = IsSequentWithin store sequent
+IsAsking store (n.Proof item base steps) = IsSequentWithin store base
 IsAsking store n.Done = ⊥
 
 abbrev pub IsAnyAsking : List Node → Option Next → Type 0
@@ -90,6 +93,8 @@ pub record IsPassed (next : Option Next) (store : List Node) (exec : Exec) (stor
 abbrev pub IsNext : Next → List Node → Exec → List Node → Exec → Leg → Type 0
 IsNext (n.Check item kind sequent) store exec store' exec' leg =
     (pending store exec leg ≡ to_show item kind (sequent_at store' sequent) ∷ pending store' exec' leg) × IsSequentWithin store' sequent
+IsNext (n.Proof item base steps) store exec store' exec' leg =
+    (pending store exec leg ≡ to_accept item (sequent_at store' base) (term_steps.step_trees steps) ∷ pending store' exec' leg) × IsSequentWithin store' base
 IsNext n.Done store exec store' exec' leg = (pending store exec leg ≡ []) × (length leg.items ≡ exec'.at)
 
 abbrev pub end_at : ℕ → Kind → ItemEnd → ExecEnd

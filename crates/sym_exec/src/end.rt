@@ -1,15 +1,22 @@
-use item_terms::ItemEnd;
 use lk_programs::Kind;
+use lk_terms::StepTerm;
+use sqlite_items::Items;
 use std::alloc::AllocError;
 use term_store::IdSequent;
 
-/// What comes next on a leg: the sequent of a check, at its item, or the end.
+/// What comes next on a leg: the sequent of a check, at its item, or a proof, whose steps are to be accepted over the facts of the base,
+/// or the end.
 #[derive(Drop)]
 pub enum Next {
     Check {
         item: u32,
         kind: Kind,
         sequent: IdSequent,
+    },
+    Proof {
+        item: u32,
+        base: IdSequent,
+        steps: Items<StepTerm>,
     },
     Done,
 }

@@ -61,6 +61,7 @@ fn next_of(asked: Asked, item: u32, kind: Kind) -> Option<Next>
             kind,
             sequent,
         }),
+        Asked::Proof { base, steps } => Some(Next::Proof { item, base, steps }),
     }
 }
 
@@ -96,7 +97,7 @@ impl Exec {
         })
     }
 
-    /// The next sequent of the leg, as numbers of the store. After an error there is the same error again, and after the end the end.
+    /// The next sequent or proof of the leg, over numbers of the store. After an error there is the same error again, and after the end the end.
     pub fn next(&mut self, alloc: Global, leg: &Leg, store: &mut TermStore) -> Result<Next, ExecEnd>
         requires { self.old.end ≡ None → IsReady store.old self.old leg.now }
         ensures next { IfOk result (λ next. IsNext next store.old self.old store.new self.new leg.now) }

@@ -1,4 +1,4 @@
-//! A leg followed over a store: what is to be shown along it, sequent by sequent.
+//! A leg followed over a store: what is to be shown along it, item by item.
 #![tactic(auto)]
 
 mod end;

@@ -41,7 +41,8 @@ returns-in-Ok-clause-next c =
           c.as_slice.ensures c.as_slice-2.ensures
           (passed_front (map (map sort_type) c.as_slice-2.result.now) (map sort_type c.as_slice.result.now) at c.in_ok-number.number old moved
           (drop at (map item_tree items)) (drop (at + 1) (map item_tree items)) (item_tree it) c.kind_of.result new c.in-Ok.asked c.next_of.result left
-          c.in-Ok.ensures.small (c.in-Ok.ensures.asked at) c.in-Ok.ensures.state (c.next_of.ensures.obligations new) c.in_ok-number.ensures.1 c.kind_of.ensures);
+          c.in-Ok.ensures.small (c.in-Ok.ensures.asked at) c.in-Ok.ensures.state (c.next_of.ensures.obligations new) c.in_ok-number.ensures.1
+          c.kind_of.ensures);
       asking = c.next_of.ensures.asking new c.in-Ok.ensures.within;
     }
 
@@ -69,8 +70,8 @@ returns-in-Ok-clause-ahead c =
     let moved = state_of c.take_item.new.store c.take_item.new.state in
     subst (λ ss. (u : Tree ℕ) → Contains (gained_along (map sort_type ss) moved (drop (at + 1) (map item_tree items))) u
     → Contains (gained_along (map sort_type ss) old (drop at (map item_tree items))) u) c.as_slice.ensures
-    (λ u h. gained_later (map sort_type c.as_slice.result.now) old moved (drop at (map item_tree items)) (drop (at + 1) (map item_tree items)) (item_tree it) u left
-    c.in-Ok.ensures.state h)
+    (λ u h. gained_later (map sort_type c.as_slice.result.now) old moved (drop at (map item_tree items)) (drop (at + 1) (map item_tree items)) (item_tree it) u
+    left c.in-Ok.ensures.state h)
 
 pub returns-in-Err-clause-end : goal.returns-in-Err-clause-end
 returns-in-Err-clause-end c =

@@ -9,14 +9,16 @@ returns-in_err-next-clause-gains c =
     let leg = c.args.leg.now in
     let all = gained_ahead c.args.store.now c.args.self.now leg in
     GainsAmong-more c.args.store.now c.items.store c.pass.new.store all c.items.invariant.gains
-    (gains_ahead c.args.store.now c.items.store c.pass.new.store all (gained_ahead c.items.store c.items.self leg) c.in_err-next.ensures.gains c.items.invariant.ahead)
+    (gains_ahead c.args.store.now c.items.store c.pass.new.store all (gained_ahead c.items.store c.items.self leg) c.in_err-next.ensures.gains
+    c.items.invariant.ahead)
 
 pub returns-in-Some-clause-gains : goal.returns-in-Some-clause-gains
 returns-in-Some-clause-gains c =
     let leg = c.args.leg.now in
     let all = gained_ahead c.args.store.now c.args.self.now leg in
     GainsAmong-more c.args.store.now c.items.store c.pass.new.store all c.items.invariant.gains
-    (gains_ahead c.args.store.now c.items.store c.pass.new.store all (gained_ahead c.items.store c.items.self leg) c.in_ok-next.ensures.gains c.items.invariant.ahead)
+    (gains_ahead c.args.store.now c.items.store c.pass.new.store all (gained_ahead c.items.store c.items.self leg) c.in_ok-next.ensures.gains
+    c.items.invariant.ahead)
 
 pub items-preserved : goal.items-preserved
 items-preserved c =

@@ -5,7 +5,7 @@ use Rattle.lk_claims.specs.Claim.{claim_tree}
 use Rattle.leg_rules.specs.Store.{with_fact}
 use Rattle.leg_rules.specs.Sequents.{read_term}
 use Rattle.leg_states.specs.State.{state_of}
-use Rattle.item_terms.proofs.steps.check.Goals as goal
+use Rattle.item_terms.proofs.claims.check.Goals as goal
 
 pub returns-in-Ok-clause-within : goal.returns-in-Ok-clause-within
 returns-in-Ok-clause-within c =

@@ -1,6 +1,6 @@
 use Rattle.std.proofs.Common.{length}
 use Rattle.term_store.proofs.Stores.{Holds-within}
-use Rattle.item_terms.proofs.steps.assume.Goals as goal
+use Rattle.item_terms.proofs.claims.assume.Goals as goal
 
 pub returns-clause-over : goal.returns-clause-over
 returns-clause-over c =
