@@ -1,0 +1,4 @@
+pub mod Ends
+pub mod Machines
+pub mod Advances
+pub mod Laws
