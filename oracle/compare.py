@@ -1,9 +1,10 @@
 #!/usr/bin/env python3
 """Runs the built program and the oracle on random texts, and compares output and exit status, byte for byte.
 
-    oracle/compare.py [COUNT] [SEED]        2000 texts of seed 1, where nothing is said
+    oracle/compare.py [--projects] [COUNT] [SEED] [FIRST]       2000 texts of seed 1 from number 0, where nothing is said
 
-Each text is made from the seed and its own number alone. A difference is printed with its text; the last line counts.
+The texts have the forms that are verified today, or with --projects those of the whole language and mutants of them. Each text is made from
+the seed and its own number alone. A difference is printed with its text; the last line counts.
 """
 import pathlib
 import random
@@ -16,6 +17,7 @@ sys.dont_write_bytecode = True      # leaves no folder of compiled files behind
 
 import oracle                                   # noqa: E402
 from closer import NumberedRow, eliminate       # noqa: E402
+from projects import project_of                 # noqa: E402
 from text import ARROWS                         # noqa: E402
 
 PROGRAM = pathlib.Path(__file__).resolve().parent.parent / "logika"
@@ -351,12 +353,18 @@ def text_of(seed: int, index: int) -> tuple[str, bytes]:
     return kind.__name__, kind(make).encode()
 
 
+def project_text(seed: int, index: int) -> tuple[str, bytes]:
+    kind, text = project_of(seed, index)
+    return kind, text.encode()
+
+
 def main() -> int:
-    words = [int(word) for word in sys.argv[1:]]
-    count, seed = words + [2000, 1][len(words):]
+    makes_projects = sys.argv[1:2] == ["--projects"]
+    words = [int(word) for word in sys.argv[1 + makes_projects:]]
+    count, seed, first = words + [2000, 1, 0][len(words):]
     differ = 0
-    for index in range(count):
-        kind, text = text_of(seed, index)
+    for index in range(first, first + count):
+        kind, text = project_text(seed, index) if makes_projects else text_of(seed, index)
         output, status = oracle.check(text)
         wanted = (output.encode(), status)
         try:

@@ -1,0 +1,5 @@
+//! Texts, and what is printed of their trees.
+#![tactic(auto)]
+
+#[cfg(test)]
+mod texts;
