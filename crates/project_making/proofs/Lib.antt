@@ -1,0 +1,4 @@
+pub mod Behind
+pub mod Adding
+pub mod Single
+pub mod Whole
