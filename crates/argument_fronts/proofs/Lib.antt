@@ -1,0 +1,4 @@
+pub mod Only
+pub mod Fronts
+pub mod NumberFronts
+pub mod HeadFronts

@@ -1,0 +1,5 @@
+pub mod Only
+pub mod Cursor
+pub mod Types
+pub mod Numbers
+pub mod Heads
