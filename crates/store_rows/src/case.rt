@@ -67,7 +67,8 @@ fn completed_rows(
     requires narrow { HaveNarrowAtoms (rows_at store.old system.old.rows.items) }
     requires settled { AreSettled (rows_at store.old system.old.rows.items) }
     requires fresh { done_trees store.old system.old.atoms.items ≡ [] }
-    requires canonical { AllByRecursion (λ row. IsCanonical row.parts) (row_specs.numbered_rows (row_specs.completed (rows_at store.old system.old.rows.items))) }
+    requires canonical { AllByRecursion (λ row. IsCanonical row.parts)
+        (row_specs.numbered_rows (row_specs.completed (rows_at store.old system.old.rows.items))) }
     ensures rows { IfOk result (λ it. it.items ≡ row_specs.numbered_rows (row_specs.completed (rows_at store.old system.old.rows.items))) }
     ensures within { IfOk result (λ it. list_all is_within it.items ≡ true) }
     ensures wide { IsErrOf result Wide

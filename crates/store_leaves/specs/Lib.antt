@@ -1,0 +1,3 @@
+pub mod Workings
+pub mod Ends
+pub mod Closes
