@@ -3,9 +3,13 @@
 
 mod files;
 
+ghost use Rattle.std.specs.Prelude.{◌≡◌, ℕ, List};
 ghost use Rattle.lk_io.specs.Run.{run};
-ghost use Rattle.slang_tree.specs.DeclTree.{file_tree};
+ghost use Rattle.slang_tree.specs.DeclTree.{DeclTree, file_tree};
+ghost use Rattle.slang_grammar.specs.Texts.{Reads};
+ghost use Rattle.print_declarations.specs.Bare.{bare_file};
 ghost use Rattle.print_layout.specs.Declarations.{file_bytes};
+ghost use Rattle.print_tokens.specs.Laws.{IsPrintedLight, ReadsBack};
 ghost use Rattle.slang_print.specs.Printed.{Prints};
 
 use files::add_file;
@@ -37,8 +41,13 @@ impl From<AllocError> for PrintEnd {
 
 /// Gives a text of the declarations to a sink, two blanks a level and with brackets only where they are needed. What
 /// was given is a front of that text, and the whole of it on `Ok`.
+///
+/// Where the declarations are, but for their places, those of some bytes, the text is read with the same declarations,
+/// but for their places, if it nests no deeper than a text may.
 pub fn print_file<S: Sink>(alloc: Global, file: &File, out: &mut S) -> Result<(), PrintEnd>
-    ensures { Prints (run (S.state out.old) (S.state out.new)) (file_bytes (file_tree file.now)) result }
+    ensures given { Prints (run (S.state out.old) (S.state out.new)) (file_bytes (file_tree file.now)) result }
+    ensures reads_back { (bytes : List ℕ) (read : List DeclTree) → Reads bytes read → bare_file (file_tree file.now) ≡ bare_file read →
+        IsPrintedLight (file_tree file.now) → ReadsBack (file_bytes (file_tree file.now)) (file_tree file.now) }
 {
     let mut text = Vec::new(alloc);
     add_file(file.items.as_slice(), &mut text)?;
