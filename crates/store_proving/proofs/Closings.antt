@@ -1,6 +1,6 @@
 -- The ends of a sequent over a store, of its cases and of its leaves, by the ends of the calls.
 use Rattle.std.proofs.Common.{◌≡◌, ℕ, zero, suc, ◌+◌, ◌<◌, ◌≤◌, List, [], ◌∷◌, ◌++◌, map, length, get_or, take, drop, nat_lt, Bool, true, false, ◌&&◌, cond}
-use Rattle.std.proofs.Common.{refl, sym, ap, ap₂, ◌∙◌, subst, le-ltb, lt-ltb, add-one, Result, Ok, Err, OnOk, IfErr, arith}
+use Rattle.std.proofs.Common.{refl, sym, ap, ap₂, ◌∙◌, subst, le-ltb, lt-ltb, add-one, Option, Some, None, Result, Ok, Err, OnOk, IfErr, arith}
 use Rattle.std.specs.List.{list_all, AllByRecursion}
 use Rattle.std.proofs.Math.Bool.{and-true}
 use Rattle.std.proofs.lemmas.List.Folds.{list_all-append}
@@ -31,7 +31,7 @@ use Rattle.store_leaves.specs.Ends.{IsLeafEnd}
 use Rattle.store_leaves.specs.Closes.{ClosesLeaf}
 use Rattle.store_proving.specs.declared.ending.ProveEnd.{ProveEnd}
 use Rattle.store_proving.specs.declared.ending.ProveEnd.TheVariants as ends
-use Rattle.store_proving.specs.Ends.{IsProveEnd, IsStopEnd, end_of_instances, end_of_split, end_of_leaf}
+use Rattle.store_proving.specs.Ends.{IsProveEnd, stop_of_prove, IsStopAt, LeavesTold, end_of_instances, end_of_split, end_of_leaf}
 use Rattle.store_proving.specs.Proofs.{AreProofsOf, IsProofAdded, HasProofs, ProvesInstanced}
 use Rattle.term_trees.specs.declared.term.Sort.{Sort}
 use Rattle.term_sorts.specs.Types.{record_types, types_of}
@@ -137,29 +137,41 @@ leaf-end leaf_ends.Rows c h = h
 leaf-end leaf_ends.Wide c h = h
 leaf-end leaf_ends.NoMemory c h = tt
 
-pub leaf-runs : (e : LeafEnd) (m n : ℕ) → IsStopEnd m n (end_of_leaf e)
-leaf-runs leaf_ends.Open m n = tt
-leaf-runs leaf_ends.Rows m n = tt
-leaf-runs leaf_ends.Wide m n = tt
-leaf-runs leaf_ends.NoMemory m n = tt
+pub leaf-runs : (e : LeafEnd) → stop_of_prove (end_of_leaf e) ≡ None
+leaf-runs leaf_ends.Open = refl
+leaf-runs leaf_ends.Rows = refl
+leaf-runs leaf_ends.Wide = refl
+leaf-runs leaf_ends.NoMemory = refl
 
 pub split-end : (s : SequentTree) (e : SplitEnd) → AreNarrow s true → IsSplitEnd e (cases s) → IsProveEnd (end_of_split e) (closing_with_instances s)
 split-end s split_ends.Cases h k = many-cases s h k
 split-end s split_ends.NoMemory h k = tt
 
-pub split-runs : (e : SplitEnd) (m n : ℕ) → IsStopEnd m n (end_of_split e)
-split-runs split_ends.Cases m n = tt
-split-runs split_ends.NoMemory m n = tt
+pub split-runs : (e : SplitEnd) → stop_of_prove (end_of_split e) ≡ None
+split-runs split_ends.Cases = refl
+split-runs split_ends.NoMemory = refl
 
 pub instances-end : (s : SequentTree) (e : InstEnd) → IsEndOf e (instancing s) → IsProveEnd (end_of_instances e) (closing s)
 instances-end s inst_ends.Instances h = many-instances s h
 instances-end s inst_ends.Size h = large-instance s h
 instances-end s inst_ends.NoMemory h = tt
 
-pub instances-run : (e : InstEnd) (m n : ℕ) → IsStopEnd m n (end_of_instances e)
-instances-run inst_ends.Instances m n = tt
-instances-run inst_ends.Size m n = tt
-instances-run inst_ends.NoMemory m n = tt
+pub instances-run : (e : InstEnd) → stop_of_prove (end_of_instances e) ≡ None
+instances-run inst_ends.Instances = refl
+instances-run inst_ends.Size = refl
+instances-run inst_ends.NoMemory = refl
+
+-- ---- what is told of later work
+
+pub not_stopped : (mine told : ℕ) (stop : Option ℕ) → told ≤ mine → stop ≡ None → LeavesTold mine told told stop
+not_stopped mine told stop h e = record { rises = omega arith; stopped = subst (IsStopAt mine told) (sym e) h }
+
+-- one call after another that was not stopped
+pub stopped-after : (mine a b c : ℕ) (stop : Option ℕ) → LeavesTold mine a b None → LeavesTold mine b c stop → LeavesTold mine a c stop
+stopped-after mine a b c stop first next = record { rises = omega (arith, first.rises, next.rises); stopped = next.stopped }
+
+pub stopped-as : (mine a b : ℕ) (stop other : Option ℕ) → stop ≡ other → LeavesTold mine a b other → LeavesTold mine a b stop
+stopped-as mine a b stop other e h = subst (LeavesTold mine a b) (sym e) h
 
 -- ---- what was found
 

@@ -1,5 +1,5 @@
 -- What the end of a sequent that was not closed says.
-use Rattle.std.specs.Prelude.{◌≡◌, ℕ, ◌<◌, ⊤}
+use Rattle.std.specs.Prelude.{◌≡◌, ℕ, ◌<◌, ◌≤◌, Option, Some, None, Result, Ok, Err, ⊤}
 use Rattle.store_instancing.specs.declared.end.InstEnd.{InstEnd}
 use Rattle.store_instancing.specs.declared.end.InstEnd.TheVariants as inst_ends
 use Rattle.store_cases.specs.declared.end.SplitEnd.{SplitEnd}
@@ -21,16 +21,30 @@ IsProveEnd ends.Instances c = c ≡ too_many
 IsProveEnd (ends.Stopped told) c = ⊤
 IsProveEnd ends.NoMemory c = ⊤
 
--- Stopped comes only where more is told now than was at the beginning, and carries it
-abbrev pub IsStopEnd : ℕ → ℕ → ProveEnd → Type 0
-IsStopEnd mine now (ends.Stopped told) = (told ≡ now) × (mine < now)
-IsStopEnd mine now ends.Open = ⊤
-IsStopEnd mine now ends.Cases = ⊤
-IsStopEnd mine now ends.Rows = ⊤
-IsStopEnd mine now ends.Wide = ⊤
-IsStopEnd mine now ends.Size = ⊤
-IsStopEnd mine now ends.Instances = ⊤
-IsStopEnd mine now ends.NoMemory = ⊤
+-- the number that the end carries where the work was stopped
+abbrev pub stop_of_prove : ProveEnd → Option ℕ
+stop_of_prove (ends.Stopped told) = Some told
+stop_of_prove ends.Open = None
+stop_of_prove ends.Cases = None
+stop_of_prove ends.Rows = None
+stop_of_prove ends.Wide = None
+stop_of_prove ends.Size = None
+stop_of_prove ends.Instances = None
+stop_of_prove ends.NoMemory = None
+
+abbrev pub stop_in : {A : Type 0} → Result A ProveEnd → Option ℕ
+stop_in (Ok x) = None
+stop_in (Err end) = stop_of_prove end
+
+-- the work is stopped where more is told now than its own number, and the end carries what is told
+abbrev pub IsStopAt : ℕ → ℕ → Option ℕ → Type 0
+IsStopAt mine now None = now ≤ mine
+IsStopAt mine now (Some told) = (told ≡ now) × (mine < now)
+
+-- How a call leaves what is told: it has not fallen, and the call was stopped exactly where it has risen above the number of the work.
+pub record LeavesTold (mine before now : ℕ) (stop : Option ℕ) : Type 0 where
+  pub rises : before ≤ now
+  pub stopped : IsStopAt mine now stop
 
 -- ---- ends of the calls below
 

@@ -10,7 +10,7 @@ ghost use Rattle.term_store.specs.Sequent.{sequent_at, IsSequentWithin};
 ghost use Rattle.store_cases.specs.Search.{trees_of_leaves};
 ghost use Rattle.store_leaves.specs.Workings.{AreWorkings};
 ghost use Rattle.whole_closing.specs.Closing.{Closing, closed, closing, closing_of_case, closing_of_cases, closing_with_instances};
-ghost use Rattle.store_proving.specs.Ends.{IsProveEnd, IsStopEnd};
+ghost use Rattle.store_proving.specs.Ends.{IsProveEnd, LeavesTold, stop_in};
 ghost use Rattle.store_proving.specs.Proofs.{IsProofAdded, AreProofsOf, ProvesInstanced, HasProofs};
 
 use crate::NoMemory;
@@ -75,8 +75,7 @@ fn has_narrow_hypotheses(
 /// Says that the work is not wanted any more where more is told than was.
 fn poll<S: Stop>(mine: u64, stop: &mut S) -> Result<(), ProveEnd>
     requires { S.told stop.old ≤ mine }
-    ensures goes_on { OnOk result (S.told stop.new ≤ mine) }
-    ensures stopped { IfErr result (λ end. IsStopEnd mine (S.told stop.new) end) }
+    ensures stopped { LeavesTold mine (S.told stop.old) (S.told stop.new) (stop_in result) }
     ensures end { IfErr result (λ end. (c : Closing) → IsProveEnd end c) }
 {
     let told = stop.poll();
@@ -102,7 +101,7 @@ fn add_proof(
         (map (tree_at store.old) leaf.now) proofs.old proofs.new) }
     ensures end { IfErr result (λ end. IsProveEnd end (closing_of_case (record_types sequent.now.records) (types_of sequent.now.sorts)
         (map (tree_at store.old) leaf.now))) }
-    ensures stopped { IfErr result (λ end. (m n : ℕ) → IsStopEnd m n end) }
+    ensures stopped { stop_in result ≡ None }
     ensures grows { Grows store.old store.new }
     ensures work { AreWorkings (record_types sequent.now.records) (types_of sequent.now.sorts) store.new work.new }
 {
@@ -136,8 +135,7 @@ fn close_next<S: Stop>(
         (map (tree_at store.old) leaf.now) proofs.old proofs.new) }
     ensures end { IfErr result (λ end. IsProveEnd end (closing_of_case (record_types sequent.now.records) (types_of sequent.now.sorts)
         (map (tree_at store.old) leaf.now))) }
-    ensures stopped { IfErr result (λ end. IsStopEnd mine (S.told stop.new) end) }
-    ensures goes_on { OnOk result (S.told stop.new ≤ mine) }
+    ensures stopped { LeavesTold mine (S.told stop.old) (S.told stop.new) (stop_in result) }
     ensures grows { Grows store.old store.new }
     ensures work { AreWorkings (record_types sequent.now.records) (types_of sequent.now.sorts) store.new work.new }
 {
@@ -168,7 +166,7 @@ fn add_proofs<S: Stop>(
         (trees_of_leaves store.old leaves.now) proofs.new) }
     ensures end { IfErr result (λ end. IsProveEnd end (closing_of_cases (record_types sequent.now.records) (types_of sequent.now.sorts)
         (trees_of_leaves store.old leaves.now))) }
-    ensures stopped { IfErr result (λ end. IsStopEnd mine (S.told stop.new) end) }
+    ensures stopped { LeavesTold mine (S.told stop.old) (S.told stop.new) (stop_in result) }
     ensures grows { Grows store.old store.new }
 {
     'leaves: for leaf in leaves {
@@ -206,7 +204,7 @@ fn close_narrow<S: Stop>(
     ensures closed { OnOk result (closing_with_instances (sequent_at store.old sequent.now) ≡ closed) }
     ensures proofs { OnOk result (ProvesInstanced (sequent_at store.old sequent.now) proofs.new) }
     ensures end { IfErr result (λ end. IsProveEnd end (closing_with_instances (sequent_at store.old sequent.now))) }
-    ensures stopped { IfErr result (λ end. IsStopEnd mine (S.told stop.new) end) }
+    ensures stopped { LeavesTold mine (S.told stop.old) (S.told stop.new) (stop_in result) }
     ensures grows { Grows store.old store.new }
 {
     match cases_of(alloc, store, sequent) {
@@ -240,7 +238,7 @@ fn close_instanced<S: Stop>(
     ensures closed { OnOk result (closing_with_instances (sequent_at store.old sequent.now) ≡ closed) }
     ensures proofs { OnOk result (ProvesInstanced (sequent_at store.old sequent.now) proofs.new) }
     ensures end { IfErr result (λ end. IsProveEnd end (closing_with_instances (sequent_at store.old sequent.now))) }
-    ensures stopped { IfErr result (λ end. IsStopEnd mine (S.told stop.new) end) }
+    ensures stopped { LeavesTold mine (S.told stop.old) (S.told stop.new) (stop_in result) }
     ensures grows { Grows store.old store.new }
 {
     let mut work = Workings::new(alloc);
@@ -268,7 +266,7 @@ pub fn prove_ids<S: Stop>(
     ensures proofs { IfOk result (λ proved. HasProofs (sequent_at store.old sequent.now) proved.leaves) }
     ensures valid { OnOk result (IsValid (sequent_at store.old sequent.now)) }
     ensures end { IfErr result (λ end. IsProveEnd end (closing (sequent_at store.old sequent.now))) }
-    ensures stopped { IfErr result (λ end. IsStopEnd mine (S.told stop.new) end) }
+    ensures stopped { LeavesTold mine (S.told stop.old) (S.told stop.new) (stop_in result) }
     ensures grows { Grows store.old store.new }
 {
     match instances_of(alloc, store, sequent) {
@@ -291,7 +289,7 @@ fn prove_made<S: Stop>(
     ensures closed { OnOk result (closing_with_instances (sequent_at store.old made.now) ≡ closed) }
     ensures proofs { IfOk result (λ proved. ProvesInstanced (sequent_at store.old made.now) proved.leaves) }
     ensures end { IfErr result (λ end. IsProveEnd end (closing_with_instances (sequent_at store.old made.now))) }
-    ensures stopped { IfErr result (λ end. IsStopEnd mine (S.told stop.new) end) }
+    ensures stopped { LeavesTold mine (S.told stop.old) (S.told stop.new) (stop_in result) }
     ensures grows { Grows store.old store.new }
 {
     let mut leaves = Items::new(alloc);

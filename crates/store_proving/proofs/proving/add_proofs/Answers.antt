@@ -1,4 +1,4 @@
-use Rattle.std.proofs.Common.{◌≡◌, ℕ, ◌+◌, List, map, take, sym, subst, ◌∙◌}
+use Rattle.std.proofs.Common.{◌≡◌, ℕ, ◌+◌, List, map, None, take, sym, subst, ◌∙◌}
 use Rattle.std.proofs.lemmas.Result.{err_from_is_err_and}
 use Rattle.slang_values.specs.Tree.{Tree}
 use Rattle.term_sorts.specs.Types.{record_types, types_of}
@@ -10,7 +10,7 @@ use Rattle.store_leaves.specs.declared.proof.LeafProof.{LeafProof}
 use Rattle.store_leaves.specs.Closes.{ClosesLeaf}
 use Rattle.store_proving.specs.Ends.{IsProveEnd}
 use Rattle.store_proving.specs.Proofs.{AreProofsOf}
-use Rattle.store_proving.proofs.Closings.{leaf_trees, next-closed, next-end, next-proofs}
+use Rattle.store_proving.proofs.Closings.{leaf_trees, next-closed, next-end, next-proofs, stopped-after}
 use Rattle.store_proving.proofs.proving.add_proofs.Goals as goal
 
 pub returns-in_err-close_next-clause-end : goal.returns-in_err-close_next-clause-end
@@ -44,5 +44,6 @@ leaves-preserved g c =
           (subst (λ (leaf : List (Tree ℕ)). ClosesLeaf records types leaf done.added.proof) same done.added.closes)),
       Grows-Grows old c.leaves.store c.close_next.new.store c.leaves.invariant.2 done.grows,
       done.work,
-      done.goes_on,
+      stopped-after c.args.mine (g.S.Stop.told c.args.stop.now) (g.S.Stop.told c.leaves.stop) (g.S.Stop.told c.close_next.new.stop) None c.leaves.invariant.4
+          done.stopped,
     )

@@ -1,4 +1,4 @@
-use Rattle.std.proofs.Common.{List, ℕ, sym, subst}
+use Rattle.std.proofs.Common.{List, ℕ, sym, ap, ◌∙◌, subst}
 use Rattle.std.specs.List.{AllByRecursion}
 use Rattle.term_sorts.specs.Types.{record_types, types_of}
 use Rattle.term_store.specs.Store.{AreWithin}
@@ -6,8 +6,8 @@ use Rattle.term_store.specs.Sequent.{sequent_at}
 use Rattle.store_leaves.proofs.Kept.{AreWorkings-grows}
 use Rattle.whole_closing.specs.Closing.{closing_with_instances}
 use Rattle.store_proving.specs.declared.ending.ProveEnd.{ProveEnd}
-use Rattle.store_proving.specs.Ends.{IsProveEnd, IsStopEnd}
-use Rattle.store_proving.proofs.Closings.{by-cases, ok-along, end-along, proofs-along, split-end, split-runs}
+use Rattle.store_proving.specs.Ends.{IsProveEnd, stop_of_prove}
+use Rattle.store_proving.proofs.Closings.{by-cases, ok-along, end-along, proofs-along, split-end, split-runs, not_stopped}
 use Rattle.store_proving.proofs.proving.close_narrow.Goals as goal
 
 pub add_proofs-requires-clause-leaves : goal.add_proofs-requires-clause-leaves
@@ -45,5 +45,5 @@ returns-in-Err-clause-end g c =
 
 pub returns-in-Err-clause-stopped : goal.returns-in-Err-clause-stopped
 returns-in-Err-clause-stopped g c =
-    subst (λ (e : ProveEnd). IsStopEnd c.args.mine (g.S.Stop.told c.args.stop.now) e) (sym c.from.ensures)
-    (split-runs c.in-Err.end c.args.mine (g.S.Stop.told c.args.stop.now))
+    let told = g.S.Stop.told c.args.stop.now in
+    not_stopped c.args.mine told (stop_of_prove c.from.result) c.requires.told (ap stop_of_prove c.from.ensures ∙ split-runs c.in-Err.end)
