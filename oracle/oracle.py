@@ -18,6 +18,7 @@ sys.dont_write_bytecode = True      # leaves no folder of compiled files behind
 sys.setrecursionlimit(1_000_000)    # the terms of long sums are high
 
 import trees                        # noqa: E402
+from text import checked            # noqa: E402
 from trees import Expr, Method      # noqa: E402
 from whole import report            # noqa: E402
 
@@ -44,12 +45,17 @@ def is_of_today(declarations: list) -> bool:
             and all(it.kind in ("val", "assert", "return") for it in method.body) and all(is_read(it) for it in values))
 
 
+def has_import(data: bytes) -> bool:
+    """Whether a text without faults has an import, which no tree tells."""
+    return any(token.kind == "word" and token.text == "import" for token in checked(data))
+
+
 def check(data: bytes) -> tuple[str, int]:
     """Standard output and exit status for the bytes of a text."""
     if len(data) > TEXT_LIMIT or any(len(line) > LINE_LIMIT for line in data.split(b"\n")):
         return "", 8
     output, status = report([("-", data)])
-    if status == 2 or is_of_today(trees.read(data)):
+    if status == 2 or (is_of_today(trees.read(data)) and not has_import(data)):
         return output, status
     return "revision 1\n-:1:1 E14 form left out\n", 2
 
