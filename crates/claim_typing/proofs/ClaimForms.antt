@@ -3,7 +3,7 @@ use Rattle.std.proofs.Common.{◌≡◌, ℕ, ◌<◌, Bool, true, false, cond, 
 use Rattle.std.specs.List.{list_all}
 use Rattle.std.proofs.lemmas.Bool.{and_from, eqb-true, lt-ltb, false≢true, true_from_ne_false}
 use Rattle.std.proofs.lemmas.List.Folds.{list_all_at}
-use Rattle.slang_values.specs.Value.{ValueType, unit_type, number_type, truth_type, sequence_type, record_type, Records, fields, element_type, is_known}
+use Rattle.slang_values.specs.Value.{ValueType, unit_type, number_type, truth_type, sequence_type, record_type, Records, fields, element_type, is_known, is_element_type}
 use Rattle.slang_values.specs.Tree.{literal, unary, binary, update, quantified, listed, Trees, no_trees, tree_then, sequence_of, record_of}
 use Rattle.slang_values.specs.Typing.{NameTypes, type_of, IsFieldType, IsTyped, AreTyped}
 use Rattle.slang_values.specs.declared.operators.Unary.{Unary}
@@ -17,7 +17,6 @@ use Rattle.slang_tree.specs.ExprTree.{ExprTree, ExprTrees, no_exprs, expr_then}
 use Rattle.slang_tree.specs.ExprTree as e
 use Rattle.program_trees.specs.Claims.{ClaimName, ClaimTree}
 use Rattle.program_trees.specs.Variables.{Variable}
-use Rattle.leg_forms.specs.WellFormed.{is_element_type}
 use Rattle.typed_programs.specs.Parts.{element_types, all_element_types}
 use Rattle.type_rules.specs.Faults.{unknown_name, type_differs, argument_count, claim_word_out_of_place, unless}
 use Rattle.type_rules.specs.Meanings.{Meaning, variable, bound_variable, block_variable, record_class, method, Field, Scope, meaning_among, meaning_of, field_types, fields_of}

@@ -3,7 +3,7 @@ use Rattle.std.proofs.Common.{◌≡◌, ℕ, Bool, true, List, [], ◌∷◌, �
 use Rattle.std.specs.List.{list_all}
 use Rattle.std.proofs.lemmas.Bool.{and_from}
 use Rattle.std.proofs.lemmas.List.Folds.{list_all-append}
-use Rattle.slang_values.specs.Value.{ValueType, unit_type, number_type, truth_type, sequence_type, record_type, Records, element_type, is_known}
+use Rattle.slang_values.specs.Value.{ValueType, unit_type, number_type, truth_type, sequence_type, record_type, Records, element_type, is_known, is_element_type}
 use Rattle.slang_values.specs.Tree.{unary, binary, Trees, no_trees, tree_then}
 use Rattle.slang_values.specs.Typing.{NameTypes, type_of, IsTyped, EachIsTyped, AreTyped}
 use Rattle.slang_values.specs.declared.operators.Unary.{Unary}
@@ -16,7 +16,6 @@ use Rattle.program_trees.specs.Operators.{connective, connected}
 use Rattle.program_trees.specs.Claims.{ClaimName, old_variable, let_symbol, ClaimTree, variable_claim}
 use Rattle.program_trees.specs.Claims as names
 use Rattle.program_trees.specs.Variables.{Variable, global, result}
-use Rattle.leg_forms.specs.WellFormed.{is_element_type}
 use Rattle.typed_programs.specs.Parts.{element_types, all_element_types}
 use Rattle.type_rules.specs.Faults.{type_differs, claim_word_out_of_place}
 use Rattle.type_rules.specs.Meanings.{Meaning, variable, bound_variable, block_variable, record_class, method, Scope}

@@ -1,11 +1,11 @@
 -- Constants as expressions, in which no variable stands.
 use Rattle.std.specs.Prelude.{ℕ, ℤ, Option}
+use Rattle.program_trees.specs.Variables.{no_number}
 use Rattle.slang_tree.specs.declared.place.Place.{Place}
 use Rattle.slang_tree.specs.declared.expression.Name.{Name}
 use Rattle.slang_tree.specs.TypeTree.{TypeTree}
 use Rattle.slang_tree.specs.DeclTree.{ConstTree, const_minus, const_sequence, const_record, ConstTrees}
 use Rattle.program_trees.specs.Programs.{TypedExpr, TypedExprs, renamed_expr, renamed_exprs}
-use Rattle.program_numbers.specs.Numbers.{no_number}
 use Rattle.type_rules.specs.Meanings.{Scope}
 use Rattle.typed_texts.specs.Numbered.{Numbered, numbered_map}
 use Rattle.typed_texts.specs.Values.{constant_of_tree, constants_of_trees}

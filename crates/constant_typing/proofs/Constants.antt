@@ -1,10 +1,9 @@
 -- The constants of a text without faults.
 use Rattle.std.proofs.Common.{◌≡◌, ℕ, ◌+◌, ◌<◌, true, cond, List, [], ◌∷◌, length, Option, Some, None, is_some, refl, ap, arith}
 use Rattle.std.proofs.lemmas.Bool.{false≢true, and_from}
-use Rattle.slang_values.specs.Value.{ValueType, sequence_type, record_type, Records, fields}
+use Rattle.slang_values.specs.Value.{ValueType, sequence_type, record_type, Records, fields, is_element_type}
 use Rattle.slang_values.specs.Tree.{Trees, listed, record_of}
 use Rattle.slang_values.specs.Typing.{NameTypes}
-use Rattle.leg_forms.specs.WellFormed.{is_element_type}
 use Rattle.slang_tree.specs.declared.place.Place.{Place}
 use Rattle.slang_tree.specs.declared.place.Fault.{Fault}
 use Rattle.slang_tree.specs.declared.expression.Name.{Name}

@@ -7,9 +7,8 @@ use Rattle.std.proofs.lemmas.Bool.{and_parts, and_from, or_from, not-true, ltb-t
 use Rattle.std.proofs.lemmas.Bool.Decides.{nat_tests}
 use Rattle.std.proofs.lemmas.List.{length-map}
 use Rattle.std.proofs.lemmas.List.Sums.{sum_by-cons}
-use Rattle.slang_values.specs.Value.{ValueType, unit_type, number_type, truth_type, sequence_type, record_type, Records, fields, is_known, parts_of_field, AreWellFormed}
+use Rattle.slang_values.specs.Value.{ValueType, unit_type, number_type, truth_type, sequence_type, record_type, Records, fields, is_known, parts_of_field, AreWellFormed, is_value_type}
 use Rattle.slang_values.specs.Value as values
-use Rattle.leg_forms.specs.WellFormed.{is_value_type}
 use Rattle.slang_tree.specs.TypeTree.{type_place}
 use Rattle.slang_tree.specs.DeclTree.{TypedName, RecordDeclTree, DeclTree, import_decl, global_decl, record_decl, method_decl}
 use Rattle.typed_programs.specs.WellTyped.{is_program_type}

@@ -1,8 +1,7 @@
 -- The records of a project without faults are well formed in the program.
 use Rattle.std.specs.Prelude.{◌≡◌, ℕ, ◌<◌, List, [], length, true, is_some, Some, map, get_or}
 use Rattle.std.specs.List.{AllByRecursion, list_all}
-use Rattle.slang_values.specs.Value.{fields, is_known, AreWellFormed}
-use Rattle.leg_forms.specs.WellFormed.{is_value_type}
+use Rattle.slang_values.specs.Value.{fields, is_known, AreWellFormed, is_value_type}
 use Rattle.slang_tree.specs.DeclTree.{DeclTree}
 use Rattle.type_rules.specs.Meanings.{record_class, all_typed, meaning_among}
 use Rattle.type_rules.specs.Projects.{outline_names, record_fields, decls_faults}

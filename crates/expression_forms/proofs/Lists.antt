@@ -1,13 +1,12 @@
 -- What is found at a form with a list of parts, from what is found at them and what is found over them.
 use Rattle.std.proofs.Common.{◌≡◌, ℕ, Bool, true, false, cond, nat_eq, Option, Some, None, List, [], ◌∷◌, ◌++◌, length, map, refl, sym, ap, ◌∙◌, subst, append_assoc}
 use Rattle.std.proofs.lemmas.List.{length-map}
-use Rattle.slang_values.specs.Value.{ValueType, unit_type, number_type, truth_type, sequence_type, record_type, element_type}
+use Rattle.slang_values.specs.Value.{ValueType, unit_type, number_type, truth_type, sequence_type, record_type, element_type, is_element_type}
 use Rattle.slang_tree.specs.declared.place.Place.{Place}
 use Rattle.slang_tree.specs.declared.place.Fault.{Fault}
 use Rattle.type_rules.specs.Faults.{argument_count, call_out_of_place, claim_word_out_of_place, type_differs}
 use Rattle.type_rules.specs.Meanings.{Scope, Signature}
 use Rattle.type_rules.specs.Judged.{Judged, all_expect, are_typed, expect_each, expects, faults_of, is_sequence, known_type, over, typed_without, untyped}
-use Rattle.leg_forms.specs.WellFormed.{is_element_type}
 use Rattle.type_rules.specs.Expressions.{Context, in_program, in_claim, in_ensures, in_proof, argument_faults, change_faults, index_faults, is_program, judged_call, judged_elements, judged_listed, judged_nested_call, judged_read, judged_record, judged_result_word}
 use Rattle.type_faults.specs.FirstFault.{with_first}
 use Rattle.type_faults.proofs.First.{in_any_order, in_turn}

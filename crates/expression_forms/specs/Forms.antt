@@ -1,10 +1,9 @@
 -- Faults of some forms, as the rules have them.
 use Rattle.std.specs.Prelude.{List, [], ◌∷◌, ◌++◌, if◌then◌else◌, Option}
 use Rattle.std.specs.Option.{option_map}
-use Rattle.slang_values.specs.Value.{number_type, element_type}
+use Rattle.slang_values.specs.Value.{number_type, element_type, is_element_type}
 use Rattle.slang_tree.specs.declared.place.Place.{Place}
 use Rattle.slang_tree.specs.declared.place.Fault.{Fault}
-use Rattle.leg_forms.specs.WellFormed.{is_element_type}
 use Rattle.type_rules.specs.Faults.{type_differs}
 use Rattle.type_rules.specs.Judged.{Judged, all_expect, expects, is_sequence, known_type}
 use Rattle.type_rules.specs.Expressions.{index_faults}

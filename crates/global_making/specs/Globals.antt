@@ -1,9 +1,9 @@
 -- Globals of the typed program, with numbers for the variables of their initial values, which name none.
 use Rattle.std.specs.Prelude.{◌≡◌, ℕ, Bool, List}
+use Rattle.program_trees.specs.Variables.{no_number}
 use Rattle.slang_tree.specs.declared.place.Place.{Place}
 use Rattle.slang_tree.specs.DeclTree.{GlobalDeclTree}
 use Rattle.program_trees.specs.Programs.{GlobalTree, renamed_global}
-use Rattle.program_numbers.specs.Numbers.{no_number}
 use Rattle.lk_claims.specs.declared.ty.Ty.{Ty}
 use Rattle.lk_programs.specs.declared.expression.Expr.{Expr}
 use Rattle.lk_programs.specs.declared.program.Global.{Global}

@@ -2,12 +2,11 @@
 use Rattle.std.specs.Prelude.{◌≡◌, ◌↔◌, List, [], length, map}
 use Rattle.std.specs.List.{AllByRecursion}
 use Rattle.slang_tree.specs.DeclTree.{DeclTree}
-use Rattle.program_trees.specs.Variables.{with_kinds}
+use Rattle.program_trees.specs.Variables.{with_kinds, numbered_program}
 use Rattle.typed_programs.specs.WellTyped.{IsTypedProgram}
 use Rattle.type_rules.specs.Projects.{FileTree, declarations}
 use Rattle.typed_texts.specs.TypedProjects.{typed_project}
 use Rattle.project_typing.specs.Projects.{IsLowDecl}
-use Rattle.program_numbers.specs.Numbers.{numbered_program}
 use Rattle.project_rules.specs.Projects.{IsTypedProject}
 use Rattle.height_rules.specs.Faults.{decl_too_high, whole_faults}
 

@@ -3,14 +3,14 @@ use Rattle.std.proofs.Common.{◌≡◌, ℕ, zero, suc, ◌+◌, ◌≤◌, Boo
 use Rattle.std.specs.Prelude.{◌&&◌}
 use Rattle.std.specs.List.{AllByRecursion, flat_map, list_all}
 use Rattle.std.proofs.lemmas.List.Concat.{flat_map-cons}
-use Rattle.slang_values.specs.Value.{ValueType, unit_type, number_type, truth_type, sequence_type, record_type}
+use Rattle.slang_values.specs.Value.{ValueType, unit_type, number_type, truth_type, sequence_type, record_type, is_element_type, is_value_type}
 use Rattle.slang_values.specs.Tree.{literal, truth_literal, name, bound, unary, binary, update, quantified, listed, Listed, sequence_of, record_of, Trees, no_trees, tree_then}
 use Rattle.slang_values.specs.Measure.{height, greatest_height}
 use Rattle.program_trees.specs.Claims.{ClaimName, ClaimTree, ProofStepTree, line, block, ProofStepTrees, no_steps, step_then, renamed_claim, renamed_name, renamed_step, renamed_steps}
 use Rattle.program_trees.specs.Legs.{ItemTree, assume, check, set, fresh, proof, renamed_item}
 use Rattle.validity.specs.Bind.{bind_all}
 use Rattle.leg_rules.specs.Numbering.{Appearance, front_appears, claim_appears, parts_appear, step_appears, steps_appear, item_appears}
-use Rattle.leg_forms.specs.WellFormed.{is_element_type, is_value_type, leg_name, is_front, IsLow, IsWellFormedStep, AreWellFormedSteps, IsWellFormedItem}
+use Rattle.leg_forms.specs.WellFormed.{leg_name, is_front, IsLow, IsWellFormedStep, AreWellFormedSteps, IsWellFormedItem}
 use Rattle.key_rules.specs.Depths.{type_depth, front_depth, claim_depth, parts_depth, step_depth, steps_depth, item_depth}
 use Rattle.key_depths.specs.Depths.{depth_limit}
 use Rattle.key_depths.specs.Laws.{WellFormedLegsAreWithin}

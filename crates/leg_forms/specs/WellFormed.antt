@@ -2,35 +2,16 @@
 use Rattle.std.specs.Prelude.{◌≡◌, ℕ, zero, suc, ◌≤◌, nat_eq, Bool, true, false, List, [], ◌∷◌, ◌++◌, map, length, get_or, ⊤}
 use Rattle.std.specs.Option.{option_map_or}
 use Rattle.std.specs.List.{AllByRecursion, IsDistinct, flat_map, list_all, range_with_len}
-use Rattle.slang_values.specs.Value.{ValueType, unit_type, number_type, truth_type, sequence_type, record_type, Records, fields, named_record}
+use Rattle.slang_values.specs.Value.{ValueType, unit_type, number_type, truth_type, sequence_type, record_type, Records, fields, named_record, is_element_type, is_value_type}
 use Rattle.slang_values.specs.Measure.{height}
-use Rattle.slang_tree.specs.Rules.{rule_numbered}
 use Rattle.program_trees.specs.declared.answer.Kind.{Kind}
 use Rattle.program_trees.specs.declared.answer.Kind.TheVariants as kinds
-use Rattle.program_trees.specs.Claims.{ClaimTree, ProofStepTree, line, block, ProofStepTrees, no_steps, step_then}
+use Rattle.program_trees.specs.Claims.{ClaimTree, ProofStepTree, line, block, ProofStepTrees, no_steps, step_then, labels, is_rule, is_empty}
 use Rattle.program_trees.specs.Variables.{local}
 use Rattle.program_trees.specs.Legs.{ItemTree, assume, check, set, fresh, proof, LegTree, renamed_item}
 use Rattle.leg_rules.specs.LegNames.{LegName, own, same_name}
 use Rattle.leg_rules.specs.Numbering.{Appearance, of_variable, of_type, item_appears, firsts}
 use Rattle.leg_rules.specs.Typed.{IsTypedLeg}
-
--- ---- types
-
--- the elements of a sequence are numbers, truth values or records
-abbrev pub is_element_type : ValueType → Bool
-is_element_type number_type = true
-is_element_type truth_type = true
-is_element_type (record_type n) = true
-is_element_type unit_type = false
-is_element_type (sequence_type t) = false
-
--- a variable or a field is a number, a truth value, a record or a sequence
-abbrev pub is_value_type : ValueType → Bool
-is_value_type unit_type = false
-is_value_type number_type = true
-is_value_type truth_type = true
-is_value_type (sequence_type t) = is_element_type t
-is_value_type (record_type n) = true
 
 -- ---- numbers by first appearance
 
@@ -72,24 +53,6 @@ record_order leg =
     firsts nat_eq (flat_map (λ appearance. records_within leg.records (length leg.records) (appearing_type leg.variables appearance)) (appears leg))
 
 -- ---- steps
-
-abbrev mutual
-  -- the labels of a step, of its assumption and of the steps inside
-  pub step_labels : {A : Type 0} → ProofStepTree A → List ℕ
-  step_labels (line label claim rule cites) = label ∷ []
-  step_labels (block label has_symbol assumed given steps) = label ∷ assumed ∷ labels steps
-
-  pub labels : {A : Type 0} → ProofStepTrees A → List ℕ
-  labels no_steps = []
-  labels (step_then step steps) = step_labels step ++ labels steps
-
--- a number of the table of rules
-abbrev pub is_rule : ℕ → Bool
-is_rule number = option_map_or (λ rule. true) (rule_numbered number) false
-
-abbrev pub is_empty : {A : Type 0} → ProofStepTrees A → Bool
-is_empty no_steps = true
-is_empty (step_then step steps) = false
 
 -- a claim that is not higher than 2,000
 abbrev pub IsLow : ClaimTree ℕ → Type 0

@@ -8,11 +8,10 @@ use Rattle.slang_values.specs.Tree.{name}
 use Rattle.slang_values.specs.Typing.{NameTypes, IsTyped, IsClosed}
 use Rattle.validity.proofs.Binds.{IsTyped-bind, IsClosed-bind}
 use Rattle.program_trees.specs.declared.answer.Kind.{Kind}
-use Rattle.program_trees.specs.Claims.{ClaimName, variable, old_variable, let_symbol, ClaimTree, NotedTree, ProofStepTree, line, block, ProofStepTrees, no_steps, step_then, renamed_name, renamed_claim, renamed_noted, renamed_step, renamed_steps}
+use Rattle.program_trees.specs.Claims.{ClaimName, variable, old_variable, let_symbol, ClaimTree, NotedTree, ProofStepTree, line, block, ProofStepTrees, no_steps, step_then, renamed_name, renamed_claim, renamed_noted, renamed_step, renamed_steps, is_empty}
 use Rattle.program_trees.specs.Programs.{TypedExpr, claim_of, MethodTree, ProgramTree}
 use Rattle.program_trees.specs.Variables.{Variable, variable_types}
 use Rattle.program_trees.specs.Legs.{set}
-use Rattle.leg_forms.specs.WellFormed.{is_empty}
 use Rattle.leg_rules.specs.LegNames.{LegName, own}
 use Rattle.leg_rules.specs.Checks.{Demand, demands, argument_demands}
 use Rattle.leg_rules.specs.Legs.{Items, at_node, own_claim, assumed, checked, demanded, set_items, test_items, on_true_items, on_false_items}

@@ -1,11 +1,11 @@
 -- The parts of a method, and the method.
 use Rattle.std.proofs.Common.{◌≡◌, ℕ, ◌+◌, List, ◌∷◌, [], ◌++◌, length, map, sym, ap, ◌∙◌, length-append}
 use Rattle.std.proofs.lemmas.List.{length-map}
+use Rattle.program_trees.specs.Variables.{number_of, numbered_method}
 use Rattle.slang_tree.specs.declared.expression.Name.{Name}
 use Rattle.slang_tree.specs.StmtTree.{stmts_of}
 use Rattle.slang_tree.specs.DeclTree.{MethodDeclTree}
 use Rattle.program_trees.specs.Programs.{MethodTree}
-use Rattle.program_numbers.specs.Numbers.{number_of, numbered_method}
 use Rattle.lk_programs.specs.declared.expression.NodeNo.{NodeNo}
 use Rattle.lk_programs.specs.declared.program.Noted.{Noted}
 use Rattle.lk_programs.specs.declared.program.Method.{Method}

@@ -8,8 +8,7 @@ use Rattle.slang_tree.specs.StmtTree.{stmts_of}
 use Rattle.slang_tree.specs.DeclTree.{MethodDeclTree, ReturnTree}
 use Rattle.program_trees.specs.Claims.{NotedTree, renamed_noted}
 use Rattle.program_trees.specs.Programs.{CodeTree, CodeTrees, no_code, code_then, give, MethodTree, renamed_code, renamed_codes}
-use Rattle.program_trees.specs.Variables.{Variable}
-use Rattle.program_numbers.specs.Numbers.{numbered_method}
+use Rattle.program_trees.specs.Variables.{Variable, numbered_method}
 use Rattle.type_rules.specs.Meanings.{Declared, Scope}
 use Rattle.type_rules.specs.Judged.{known_type}
 use Rattle.type_rules.specs.Expressions.{Context, in_claim, in_ensures}

@@ -8,10 +8,9 @@ use Rattle.slang_values.specs.declared.operators.Unary.{Unary}
 use Rattle.slang_tree.specs.declared.expression.Operator.{Operator}
 use Rattle.validity.specs.Bind.{EachName, EachNameOfAll}
 use Rattle.validity.proofs.Binds.{bind-bind, bind-name, bind-same_names, EachName-typed}
-use Rattle.leg_forms.specs.WellFormed.{is_empty}
 use Rattle.leg_rules.specs.Typed.{with_label}
 use Rattle.program_trees.specs.Operators.{connective, connected, exchanged, negated}
-use Rattle.program_trees.specs.Claims.{ClaimName, variable, old_variable, let_symbol, ClaimTree, NotedTree, ProofStepTree, line, block, ProofStepTrees, no_steps, step_then, renamed_name, renamed_claim, renamed_noted, renamed_step, renamed_steps}
+use Rattle.program_trees.specs.Claims.{ClaimName, variable, old_variable, let_symbol, ClaimTree, NotedTree, ProofStepTree, line, block, ProofStepTrees, no_steps, step_then, renamed_name, renamed_claim, renamed_noted, renamed_step, renamed_steps, is_empty}
 use Rattle.program_trees.specs.Programs.{TypedExpr, TypedExprs, claim_of, claims_of, renamed_expr, renamed_exprs}
 use Rattle.program_trees.specs.Programs as programs
 use Rattle.program_trees.specs.Variables.{Variable, variable_types}

@@ -7,13 +7,13 @@ use Rattle.std.proofs.lemmas.Option.{slice_get_within}
 use Rattle.slang_values.specs.Value.{ValueType}
 use Rattle.slang_values.specs.declared.operators.Unary.{Unary}
 use Rattle.program_trees.specs.Programs.{TypedExpr, number, truth, unary, listed, TypedExprs, no_exprs, expr_then, renamed_expr, renamed_exprs, MethodTree, GlobalTree, ProgramTree, renamed_method, renamed_global}
-use Rattle.program_trees.specs.Variables.{Variable, local, global, entry, result, variable_of, variable_types}
+use Rattle.program_trees.specs.Variables.{Variable, local, global, entry, result, variable_of, variable_types, number_of, no_number, numbered_method}
 use Rattle.typed_programs.specs.Parts.{is_constant, are_constant}
 use Rattle.typed_programs.specs.WellTyped.{is_named_before, scope_before, scope_behind, around_body, body_end, IsTypedMethod, IsTypedGlobal, IsTypedProgram}
 use Rattle.typed_texts.specs.TypedProjects.{NodeAt, typed_project}
 use Rattle.claim_typing.proofs.Parts.{none_is_some}
 use Rattle.project_typing.proofs.Projects.{projects_typed}
-use Rattle.program_numbers.specs.Numbers.{number_of, no_number, numbered_method, NumbersStandForPrograms, NumberedProjectsAreTyped}
+use Rattle.program_numbers.specs.Numbers.{NumbersStandForPrograms, NumberedProjectsAreTyped}
 use Rattle.program_numbers.proofs.Names.{all_noted_back}
 use Rattle.program_numbers.proofs.Codes.{codes_back}
 

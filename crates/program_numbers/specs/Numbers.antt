@@ -1,33 +1,12 @@
--- A program over variables by their kinds, as the program over numbers that stands for it.
-use Rattle.std.specs.Prelude.{◌≡◌, ℕ, ◌+◌, List, [], length, map}
+-- The program over numbers that stands for a program over variables by their kinds: the laws.
+use Rattle.std.specs.Prelude.{◌≡◌, ℕ, List, [], length, map}
 use Rattle.std.specs.List.{AllByRecursion}
-use Rattle.program_trees.specs.Programs.{MethodTree, ProgramTree, renamed_method, renamed_global}
-use Rattle.program_trees.specs.Variables.{Variable, local, global, entry, result, with_kinds}
+use Rattle.program_trees.specs.Programs.{ProgramTree}
+use Rattle.program_trees.specs.Variables.{Variable, with_kinds, numbered_program}
 use Rattle.typed_programs.specs.WellTyped.{IsTypedProgram}
 use Rattle.type_rules.specs.Projects.{FileTree, declarations, first_faults}
 use Rattle.typed_texts.specs.TypedProjects.{typed_project}
 use Rattle.project_typing.specs.Projects.{IsLowDecl}
-
--- The numbers of a method's variables count first its locals, then the globals, then their entry values, and last the result.
-abbrev pub number_of : (locals globals : ℕ) → Variable → ℕ
-number_of locals globals (local n) = n
-number_of locals globals (global n) = locals + n
-number_of locals globals (entry n) = locals + globals + n
-number_of locals globals result = locals + globals + globals
-
--- the initial value of a global names none
-abbrev pub no_number : Variable → ℕ
-no_number x = 0
-
-abbrev pub numbered_method : ℕ → MethodTree Variable → MethodTree ℕ
-numbered_method globals method = renamed_method (number_of (length method.locals) globals) method
-
-abbrev pub numbered_program : ProgramTree Variable → ProgramTree ℕ
-numbered_program program = record {
-  records = program.records;
-  globals = map (renamed_global no_number) program.globals;
-  methods = map (numbered_method (length program.globals)) program.methods;
-}
 
 -- A well-typed program is the one that stands for its own numbers.
 abbrev pub NumbersStandForPrograms : Type 0

@@ -1,5 +1,7 @@
 -- Claims over variables of any kind, and the steps of proofs over them.
-use Rattle.std.specs.Prelude.{ℕ, Bool, List}
+use Rattle.std.specs.Prelude.{ℕ, Bool, true, false, List, [], ◌∷◌, ◌++◌}
+use Rattle.std.specs.Option.{option_map_or}
+use Rattle.slang_tree.specs.Rules.{rule_numbered}
 use Rattle.slang_values.specs.Tree.{Tree, name}
 use Rattle.validity.specs.Bind.{rename}
 
@@ -33,6 +35,24 @@ mutual
   pub data ProofStepTrees (A : Type 0) : Type 0 where
     no_steps : ProofStepTrees A
     step_then : ProofStepTree A → ProofStepTrees A → ProofStepTrees A
+
+abbrev mutual
+  -- the labels of a step, of its assumption and of the steps inside
+  pub step_labels : {A : Type 0} → ProofStepTree A → List ℕ
+  step_labels (line label claim rule cites) = label ∷ []
+  step_labels (block label has_symbol assumed given steps) = label ∷ assumed ∷ labels steps
+
+  pub labels : {A : Type 0} → ProofStepTrees A → List ℕ
+  labels no_steps = []
+  labels (step_then step steps) = step_labels step ++ labels steps
+
+-- a number of the table of rules
+abbrev pub is_rule : ℕ → Bool
+is_rule number = option_map_or (λ rule. true) (rule_numbered number) false
+
+abbrev pub is_empty : {A : Type 0} → ProofStepTrees A → Bool
+is_empty no_steps = true
+is_empty (step_then step steps) = false
 
 -- ---- over other variables
 

@@ -45,3 +45,24 @@ variable_types program method result = result_type method.result
     result_type : ValueType → Option ValueType
     result_type unit_type = None
     result_type t = Some t
+
+-- The numbers of a method's variables count first its locals, then the globals, then their entry values, and last the result.
+abbrev pub number_of : (locals globals : ℕ) → Variable → ℕ
+number_of locals globals (local n) = n
+number_of locals globals (global n) = locals + n
+number_of locals globals (entry n) = locals + globals + n
+number_of locals globals result = locals + globals + globals
+
+-- the initial value of a global names none
+abbrev pub no_number : Variable → ℕ
+no_number x = 0
+
+abbrev pub numbered_method : ℕ → MethodTree Variable → MethodTree ℕ
+numbered_method globals method = renamed_method (number_of (length method.locals) globals) method
+
+abbrev pub numbered_program : ProgramTree Variable → ProgramTree ℕ
+numbered_program program = record {
+  records = program.records;
+  globals = map (renamed_global no_number) program.globals;
+  methods = map (numbered_method (length program.globals)) program.methods;
+}

@@ -4,11 +4,11 @@ use Rattle.std.proofs.Common.{append-nil, append_assoc, length-append, arith}
 use Rattle.std.proofs.lemmas.List.{length-map, map-append}
 use Rattle.std.proofs.lemmas.List.Elements.{filter_map-append}
 use Rattle.std.proofs.lemmas.Grind.{flat_map-append}
+use Rattle.program_trees.specs.Variables.{no_number, numbered_method}
 use Rattle.slang_tree.specs.declared.place.Place.{Place}
 use Rattle.slang_tree.specs.declared.expression.Name.{Name}
 use Rattle.slang_tree.specs.DeclTree.{GlobalDeclTree, RecordDeclTree, DeclTree, import_decl, record_decl}
 use Rattle.program_trees.specs.Programs.{GlobalTree, MethodTree, renamed_global}
-use Rattle.program_numbers.specs.Numbers.{no_number, numbered_method}
 use Rattle.lk_programs.specs.declared.program.NodePlace.{NodePlace}
 use Rattle.lk_programs.specs.Program.{global_tree, method_tree}
 use Rattle.type_rules.specs.Projects.{FileTree, global_of}

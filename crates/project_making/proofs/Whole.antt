@@ -3,8 +3,7 @@ use Rattle.std.proofs.Common.{◌≡◌, ℕ, suc, ◌+◌, cond, List, [], ◌�
 use Rattle.std.proofs.lemmas.List.Elements.{filter_map-append}
 use Rattle.slang_tree.specs.DeclTree.{TypedName, RecordDeclTree, DeclTree, import_decl, global_decl, record_decl, method_decl}
 use Rattle.program_trees.specs.Programs.{MethodTree, renamed_global}
-use Rattle.program_trees.specs.Variables.{Variable, with_kinds}
-use Rattle.program_numbers.specs.Numbers.{no_number, numbered_method, numbered_program}
+use Rattle.program_trees.specs.Variables.{Variable, with_kinds, no_number, numbered_method, numbered_program}
 use Rattle.typed_programs.specs.WellTyped.{IsTypedProgram}
 use Rattle.lk_programs.specs.declared.program.Method.{Method}
 use Rattle.lk_programs.specs.declared.program.NodePlace.{NodePlace}

@@ -1,8 +1,8 @@
 -- Globals and methods that were made behind others, with their nodes.
 use Rattle.std.specs.Prelude.{◌≡◌, ℕ, List, [], ◌∷◌, ◌++◌, length, map, filter_map, flat_map}
+use Rattle.program_trees.specs.Variables.{no_number, numbered_method}
 use Rattle.slang_tree.specs.DeclTree.{GlobalDeclTree, DeclTree, import_decl, global_decl, record_decl, method_decl}
 use Rattle.program_trees.specs.Programs.{renamed_global}
-use Rattle.program_numbers.specs.Numbers.{no_number, numbered_method}
 use Rattle.lk_programs.specs.declared.program.Global.{Global}
 use Rattle.lk_programs.specs.declared.program.NodePlace.{NodePlace}
 use Rattle.lk_programs.specs.Program.{global_tree, method_tree}

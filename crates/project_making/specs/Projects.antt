@@ -1,8 +1,8 @@
 -- The typed program of a project, as it was made.
 use Rattle.std.specs.Prelude.{◌≡◌, ℕ, List, length, map, filter_map}
+use Rattle.program_trees.specs.Variables.{no_number, numbered_method, numbered_program}
 use Rattle.slang_tree.specs.DeclTree.{DeclTree}
 use Rattle.program_trees.specs.Programs.{renamed_global}
-use Rattle.program_numbers.specs.Numbers.{no_number, numbered_method, numbered_program}
 use Rattle.lk_programs.specs.declared.program.RecordTy.{RecordTy}
 use Rattle.lk_programs.specs.declared.typed.Typed.{Typed}
 use Rattle.lk_programs.specs.Program.{global_tree, method_tree}

@@ -1,8 +1,7 @@
 -- A constant is found to be of a type exactly where it is well typed of that type, and then it has no fault.
 use Rattle.std.proofs.Common.{◌≡◌, ℕ, Bool, true, false, cond, nat_eq, List, [], ◌∷◌, ◌++◌, length, Option, Some, None, is_some, refl, sym, ap, ◌∙◌, subst, arith}
 use Rattle.std.proofs.lemmas.Bool.{false≢true, and_parts, eqb-true, eq-eqb}
-use Rattle.slang_values.specs.Value.{ValueType, sequence_type, record_type}
-use Rattle.leg_forms.specs.WellFormed.{is_element_type}
+use Rattle.slang_values.specs.Value.{ValueType, sequence_type, record_type, is_element_type}
 use Rattle.slang_tree.specs.declared.place.Place.{Place}
 use Rattle.slang_tree.specs.declared.place.Fault.{Fault}
 use Rattle.slang_tree.specs.TypeTree.{TypeTree, z_name, b_name, unit_name, sequence_name, record_name}

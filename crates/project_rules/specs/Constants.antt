@@ -1,7 +1,6 @@
 -- Which constants of a text are well typed, and of which type.
 use Rattle.std.specs.Prelude.{◌≡◌, ◌↔◌, ℕ, true, List, [], ◌∷◌, ⊤, Option, Some, None}
-use Rattle.slang_values.specs.Value.{ValueType, number_type, truth_type, sequence_type, record_type}
-use Rattle.leg_forms.specs.WellFormed.{is_element_type}
+use Rattle.slang_values.specs.Value.{ValueType, number_type, truth_type, sequence_type, record_type, is_element_type}
 use Rattle.slang_tree.specs.TypeTree.{TypeTree}
 use Rattle.slang_tree.specs.DeclTree.{ConstTree, const_number, const_minus, const_truth, const_falsity, const_sequence, const_record, ConstTrees, no_consts, const_then}
 use Rattle.type_rules.specs.Meanings.{record_class, Scope, meaning_of, field_types}

@@ -3,9 +3,8 @@ use Rattle.std.proofs.Common.{◌≡◌, ⊎_elim, ℕ, ◌+◌, ◌≤◌, Bool
 use Rattle.std.specs.List.{AllByRecursion, IsDistinct, list_all, list_any}
 use Rattle.std.specs.Set.{is_member}
 use Rattle.std.proofs.lemmas.Bool.{true≢false, false≢true, and_parts, and_from, or_left, or_right, or_cases, eqb-true, false_from_ne_true}
-use Rattle.slang_values.specs.Value.{ValueType, unit_type, number_type, truth_type, sequence_type, record_type, is_known}
+use Rattle.slang_values.specs.Value.{ValueType, unit_type, number_type, truth_type, sequence_type, record_type, is_known, is_value_type}
 use Rattle.slang_values.specs.Typing.{NameTypes}
-use Rattle.leg_forms.specs.WellFormed.{is_value_type}
 use Rattle.slang_tree.specs.declared.expression.Name.{Name}
 use Rattle.slang_tree.specs.ExprTree.{ExprTree}
 use Rattle.program_trees.specs.Claims.{ClaimName}

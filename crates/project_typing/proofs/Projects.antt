@@ -2,7 +2,7 @@
 use Rattle.std.proofs.Common.{◌≡◌, inl, inr, ℕ, suc, ◌+◌, ◌≤◌, true, nat_lt, bytes_eq, List, [], ◌∷◌, ◌++◌, map, length, get_or, slice_get, filter_map, Some, is_some, refl, sym, ap, ◌∙◌, subst, arith}
 use Rattle.std.specs.List.{AllByRecursion, IsDistinct, list_all}
 use Rattle.std.proofs.lemmas.List.{length-map}
-use Rattle.leg_forms.specs.WellFormed.{is_value_type}
+use Rattle.slang_values.specs.Value.{is_value_type}
 use Rattle.slang_tree.specs.StmtTree.{stmts_of}
 use Rattle.slang_tree.specs.DeclTree.{RecordDeclTree, MethodDeclTree, DeclTree}
 use Rattle.program_trees.specs.Programs.{MethodTree, GlobalTree, ProgramTree}

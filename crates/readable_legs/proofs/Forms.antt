@@ -6,7 +6,7 @@ use Rattle.std.proofs.lemmas.List.{length-map}
 use Rattle.std.proofs.lemmas.List.Elements.{All-from_recursion}
 use Rattle.std.proofs.lemmas.List.Folds.{list_all-append}
 use Rattle.std.proofs.lemmas.Option.{none-some, slice_get_within}
-use Rattle.slang_values.specs.Value.{ValueType, unit_type, number_type, truth_type, sequence_type, record_type, Records}
+use Rattle.slang_values.specs.Value.{ValueType, unit_type, number_type, truth_type, sequence_type, record_type, Records, is_element_type, is_value_type}
 use Rattle.slang_values.specs.Tree.{literal, truth_literal, name, bound, unary, binary, update}
 use Rattle.slang_values.specs.Tree.{quantified, listed, Trees, no_trees, tree_then, Listed, sequence_of, record_of}
 use Rattle.validity.specs.Bind.{EachName, EachNameOfAll, bind_all}
@@ -20,7 +20,7 @@ use Rattle.lk_programs.specs.LegData.{item_tree, leg_tree}
 use Rattle.leg_sorts.specs.Sorts.{has_sort, HaveSorts}
 use Rattle.leg_rules.specs.Numbering.{Appearance, claim_appears, parts_appear, front_appears, step_appears, steps_appear, item_appears}
 use Rattle.leg_rules.specs.Typed.{item_names, step_names, with_label, no_labels, IsLegClaim, IsTypedStep, AreTypedSteps, IsTypedItem}
-use Rattle.leg_forms.specs.WellFormed.{is_element_type, is_value_type, leg_name, is_front}
+use Rattle.leg_forms.specs.WellFormed.{leg_name, is_front}
 use Rattle.claim_reading.specs.Readable.{IsWithin, front_has_sort, IsReadable, AreReadable}
 use Rattle.item_terms.specs.Items.{IsReadableItem}
 use Rattle.step_terms.specs.Steps.{IsReadableStep, AreReadableSteps}

@@ -33,6 +33,22 @@ same_type (sequence_type s) (sequence_type t) = same_type s t
 same_type (record_type m) (record_type n) = m == n
 same_type _ _ = false
 
+-- the elements of a sequence are numbers, truth values or records
+abbrev pub is_element_type : ValueType → Bool
+is_element_type number_type = true
+is_element_type truth_type = true
+is_element_type (record_type n) = true
+is_element_type unit_type = false
+is_element_type (sequence_type t) = false
+
+-- a variable or a field is a number, a truth value, a record or a sequence
+abbrev pub is_value_type : ValueType → Bool
+is_value_type unit_type = false
+is_value_type number_type = true
+is_value_type truth_type = true
+is_value_type (sequence_type t) = is_element_type t
+is_value_type (record_type n) = true
+
 -- the type of the elements of a sequence of the type
 abbrev pub element_type : ValueType → ValueType
 element_type unit_type = unit_type

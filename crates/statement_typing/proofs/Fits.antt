@@ -3,8 +3,7 @@ use Rattle.std.proofs.Common.{◌≡◌, ◌⊎◌, ⊎_elim, ℕ, ◌+◌, ◌�
 use Rattle.std.specs.List.{list_any}
 use Rattle.std.specs.Set.{is_member}
 use Rattle.std.proofs.lemmas.Bool.{and_parts, and_from, or_cases, or_left, or_right, le-leb}
-use Rattle.slang_values.specs.Value.{ValueType, is_known}
-use Rattle.leg_forms.specs.WellFormed.{is_value_type}
+use Rattle.slang_values.specs.Value.{ValueType, is_known, is_value_type}
 use Rattle.slang_tree.specs.declared.expression.Name.{Name}
 use Rattle.program_trees.specs.Claims.{ClaimName, old_variable, let_symbol}
 use Rattle.program_trees.specs.Claims as names

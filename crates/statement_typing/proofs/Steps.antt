@@ -12,9 +12,8 @@ use Rattle.slang_tree.specs.declared.rules.Rule.{Rule}
 use Rattle.slang_tree.specs.Rules.{NamedRule, rules, named_in, numbered_in, rule_named}
 use Rattle.slang_tree.specs.ExprTree.{ExprTree}
 use Rattle.slang_tree.specs.StmtTree.{StepTree, line, block, let_block, StepTrees, no_steps, step_then}
-use Rattle.leg_forms.specs.WellFormed.{step_labels, labels, is_rule, is_empty}
 use Rattle.leg_rules.specs.Typed.{with_label, no_labels}
-use Rattle.program_trees.specs.Claims.{let_symbol}
+use Rattle.program_trees.specs.Claims.{let_symbol, step_labels, labels, is_rule, is_empty}
 use Rattle.typed_programs.specs.Scopes.{proof_names, IsClaimOver, IsStepIn, AreStepsIn}
 use Rattle.typed_programs.specs.Scopes as programs
 use Rattle.type_rules.specs.Faults.{unless, duplicate_name}

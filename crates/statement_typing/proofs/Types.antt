@@ -3,12 +3,11 @@ use Rattle.std.proofs.Common.{◌≡◌, ℕ, zero, suc, ◌<◌, Bool, true, Li
 use Rattle.std.specs.List.{list_all}
 use Rattle.std.proofs.lemmas.Bool.{false≢true, and_parts, and_from, lt-ltb}
 use Rattle.std.proofs.lemmas.List.Folds.{list_all-append}
-use Rattle.slang_values.specs.Value.{ValueType, unit_type, number_type, truth_type, sequence_type, record_type, Records, fields, is_known}
+use Rattle.slang_values.specs.Value.{ValueType, unit_type, number_type, truth_type, sequence_type, record_type, Records, fields, is_known, is_element_type, is_value_type}
 use Rattle.slang_values.specs.Tree.{Tree, literal, truth_literal, name, bound, unary, binary, update, quantified, listed, sequence_of, record_of}
 use Rattle.slang_values.specs.Typing.{NameTypes, type_of, IsFieldType, IsTyped}
 use Rattle.slang_values.specs.declared.operators.Unary.{Unary}
 use Rattle.slang_values.specs.declared.operators.Binary.{Binary}
-use Rattle.leg_forms.specs.WellFormed.{is_element_type, is_value_type}
 use Rattle.slang_tree.specs.declared.place.Place.{Place}
 use Rattle.slang_tree.specs.TypeTree.{TypeTree, z_name, b_name, unit_name, sequence_name, record_name}
 use Rattle.typed_programs.specs.Parts.{element_types, all_element_types}

@@ -1,8 +1,7 @@
 -- When what is in scope at a place of a text agrees with what may be named and assigned there in the program.
 use Rattle.std.specs.Prelude.{◌≡◌, ℕ, ◌+◌, ◌<◌, Bool, true, List, [], ◌∷◌, length, slice_get, Option, Some, None, is_some, ⊤, ◌⊎◌}
 use Rattle.std.specs.List.{AllByRecursion, list_all}
-use Rattle.slang_values.specs.Value.{ValueType, fields, is_known}
-use Rattle.leg_forms.specs.WellFormed.{is_value_type}
+use Rattle.slang_values.specs.Value.{ValueType, fields, is_known, is_value_type}
 use Rattle.program_trees.specs.Programs.{MethodTree, ProgramTree}
 use Rattle.program_trees.specs.Variables.{Variable, local, global, variable_types}
 use Rattle.run_rules.specs.Runs.{method_at}

@@ -1,8 +1,8 @@
 -- The statements of a text without faults are well typed in the program.
 use Rattle.std.specs.Prelude.{◌≡◌, ℕ, ◌+◌, ◌≤◌, nat_eq, Bool, true, [], length, Option, ⊤}
 use Rattle.std.specs.List.{IsDistinct, list_all}
+use Rattle.program_trees.specs.Claims.{labels}
 use Rattle.slang_tree.specs.StmtTree.{StepTrees, StmtTrees}
-use Rattle.leg_forms.specs.WellFormed.{labels}
 use Rattle.leg_rules.specs.Typed.{no_labels}
 use Rattle.program_trees.specs.Programs.{CodeTree, no_code, MethodTree, ProgramTree}
 use Rattle.program_trees.specs.Variables.{Variable}

@@ -2,10 +2,9 @@
 use Rattle.std.proofs.Common.{◌≡◌, ℕ, zero, suc, ◌-◌, Bool, true, false, ◌&&◌, List, [], ◌∷◌, length, nat_eq, Result, IfOk, refl, sym, ap, ◌∙◌, subst, arith}
 use Rattle.std.proofs.lemmas.Bool.{ne_eqb}
 use Rattle.slang_values.specs.Value.{ValueType, Records}
-use Rattle.program_trees.specs.Claims.{ClaimTree, ProofStepTrees, line, block}
+use Rattle.program_trees.specs.Claims.{ClaimTree, ProofStepTrees, line, block, is_empty, is_rule}
 use Rattle.lk_claims.specs.declared.step.ProofStep.{ProofStep}
 use Rattle.lk_claims.specs.Step.{step_trees}
-use Rattle.leg_forms.specs.WellFormed.{is_empty, is_rule}
 use Rattle.step_checks.specs.Tests.{with_symbol, given_passes, step_passes, steps_pass, block_passes}
 
 pub none_there : (steps : List ProofStep) → nat_eq (length steps) 0 ≡ is_empty (step_trees steps)

@@ -7,10 +7,10 @@ use Rattle.std.proofs.lemmas.List.Folds.{list_any-append}
 use Rattle.slang_values.specs.Value.{ValueType, number_type, truth_type, Records}
 use Rattle.slang_values.specs.Typing.{NameTypes, IsTyped}
 use Rattle.slang_values.proofs.Equality.{same_type-true, same_type_refl}
-use Rattle.program_trees.specs.Claims.{ClaimName, variable, old_variable, let_symbol, ClaimTree}
+use Rattle.program_trees.specs.Claims.{ClaimName, variable, old_variable, let_symbol, ClaimTree, is_empty, is_rule}
 use Rattle.program_trees.specs.Claims.{ProofStepTree, line, block, ProofStepTrees, no_steps, step_then}
 use Rattle.leg_rules.specs.Typed.{step_names, IsLegClaim, with_label, IsTypedStep, AreTypedSteps}
-use Rattle.leg_forms.specs.WellFormed.{is_empty, is_rule, IsLow, IsWellFormedStep, AreWellFormedSteps}
+use Rattle.leg_forms.specs.WellFormed.{IsLow, IsWellFormedStep, AreWellFormedSteps}
 use Rattle.claim_limits.specs.Limits.{within}
 use Rattle.claim_limits.proofs.Testing.{tells, passes}
 use Rattle.claim_types.specs.Judged.{is_type, judged}

@@ -3,9 +3,8 @@ use Rattle.std.specs.Prelude.{ℕ, zero, suc, nat_eq, Bool, true, false, ◌&&�
 use Rattle.std.specs.Set.{is_member}
 use Rattle.slang_values.specs.Value.{ValueType, truth_type, Records}
 use Rattle.slang_values.specs.Typing.{NameTypes}
-use Rattle.program_trees.specs.Claims.{ClaimName, ClaimTree, ProofStepTree, line, block, ProofStepTrees, no_steps, step_then}
+use Rattle.program_trees.specs.Claims.{ClaimName, ClaimTree, ProofStepTree, line, block, ProofStepTrees, no_steps, step_then, is_empty, is_rule}
 use Rattle.leg_rules.specs.Typed.{step_names}
-use Rattle.leg_forms.specs.WellFormed.{is_empty, is_rule}
 use Rattle.claim_limits.specs.Limits.{within}
 use Rattle.claim_types.specs.Judged.{is_type, judged}
 

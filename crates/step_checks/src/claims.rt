@@ -2,7 +2,7 @@ ghost use Rattle.std.specs.Prelude.{◌≡◌, map};
 ghost use Rattle.lk_claims.specs.Claim.{claim_tree, value_type};
 ghost use Rattle.claim_types.specs.Views.{records_of, scope_names, view_type};
 ghost use Rattle.step_checks.specs.Tests.{claim_passes as passes, given_passes as given};
-ghost use Rattle.leg_forms.specs.WellFormed as forms;
+ghost use Rattle.program_trees.specs.Claims as forms;
 
 use claim_limits::is_within;
 use claim_types::{Scope, TypeView, has_type, type_of};

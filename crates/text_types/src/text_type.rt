@@ -1,7 +1,6 @@
 ghost use Rattle.std.specs.Prelude.{◌≡◌, MatchOption, false};
 ghost use Rattle.std.specs.Option.{is_some};
-ghost use Rattle.slang_values.specs.Value.{element_type, same_type};
-ghost use Rattle.leg_forms.specs.WellFormed.{is_element_type};
+ghost use Rattle.slang_values.specs.Value.{element_type, same_type, is_element_type};
 ghost use Rattle.type_rules.specs.Judged.{is_sequence};
 ghost use Rattle.text_types.specs.TextType.{element_value, text_value};
 

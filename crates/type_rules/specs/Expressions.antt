@@ -1,7 +1,7 @@
 -- What is found at an expression of a text.
 use Rattle.std.specs.Prelude.{ℕ, nat_eq, Bool, true, false, if◌then◌else◌, List, [], ◌∷◌, ◌++◌, length, find, codes, Option, Some, None}
 use Rattle.std.specs.Str.{bytes_eq}
-use Rattle.slang_values.specs.Value.{ValueType, unit_type, number_type, truth_type, sequence_type, record_type, element_type}
+use Rattle.slang_values.specs.Value.{ValueType, unit_type, number_type, truth_type, sequence_type, record_type, element_type, is_element_type}
 use Rattle.slang_values.specs.declared.operators.Binary.{Binary}
 use Rattle.slang_tree.specs.declared.place.Place.{Place}
 use Rattle.slang_tree.specs.declared.place.Fault.{Fault}
@@ -10,7 +10,6 @@ use Rattle.slang_tree.specs.TypeTree.{TypeTree}
 use Rattle.slang_tree.specs.ExprTree.{ExprTree, ExprTrees, no_exprs, expr_then}
 use Rattle.slang_tree.specs.ExprTree as e
 use Rattle.program_trees.specs.Operators.{connective}
-use Rattle.leg_forms.specs.WellFormed.{is_element_type}
 use Rattle.type_rules.specs.Faults.{unknown_name, duplicate_name, type_differs, argument_count, outside_modifies, call_out_of_place, claim_word_out_of_place, unless}
 use Rattle.type_rules.specs.Meanings.{Signature, Meaning, variable, bound_variable, block_variable, record_class, method, Field, Scope, meaning_of, is_known, fields_of, field_types, is_well_declared, is_var, is_global_var, covers_all, with_bound}
 use Rattle.type_rules.specs.Judged.{Judged, well, untyped, faults_of, known_type, over, expects, all_expect, expect_each, is_sequence}

@@ -1,7 +1,6 @@
 -- Variables of the code, as the rules see them, and their numbers.
 use Rattle.std.specs.Prelude.{ℕ, Option, Some, None}
-use Rattle.program_trees.specs.Variables.{Variable, local, global, entry, result}
-use Rattle.program_numbers.specs.Numbers.{number_of}
+use Rattle.program_trees.specs.Variables.{Variable, local, global, entry, result, number_of}
 use Rattle.type_rules.specs.Meanings.{Meaning, variable}
 use Rattle.typed_names.specs.declared.variables.VariableKind.{VariableKind}
 use Rattle.typed_names.specs.declared.variables.VariableKind.TheVariants as v

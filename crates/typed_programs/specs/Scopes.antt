@@ -2,13 +2,12 @@
 use Rattle.std.specs.Prelude.{◌≡◌, ℕ, zero, suc, ◌<◌, ◌≤◌, nat_le, Bool, true, false, not, List, [], ◌∷◌, length, slice_get, ⊤, Option, Some, None, if◌then◌else◌}
 use Rattle.std.specs.Option.{option_map_or}
 use Rattle.std.specs.List.{AllByRecursion, list_all}
-use Rattle.slang_values.specs.Value.{ValueType, number_type, truth_type}
+use Rattle.slang_values.specs.Value.{ValueType, number_type, truth_type, is_element_type}
 use Rattle.slang_values.specs.Measure.{height}
 use Rattle.slang_values.specs.Typing.{NameTypes, IsTyped, IsClosed}
-use Rattle.program_trees.specs.Claims.{ClaimName, variable, old_variable, let_symbol, ClaimTree, NotedTree, ProofStepTree, line, block, ProofStepTrees, no_steps, step_then}
+use Rattle.program_trees.specs.Claims.{ClaimName, variable, old_variable, let_symbol, ClaimTree, NotedTree, ProofStepTree, line, block, ProofStepTrees, no_steps, step_then, is_rule, is_empty}
 use Rattle.program_trees.specs.Programs.{TypedExpr, claim_of, MethodTree, ProgramTree}
 use Rattle.program_trees.specs.Variables.{Variable, local, global, entry, result, variable_types}
-use Rattle.leg_forms.specs.WellFormed.{is_element_type, is_rule, is_empty}
 use Rattle.leg_rules.specs.Typed.{with_label}
 use Rattle.typed_programs.specs.Parts.{expr_height, expr_nodes, element_types}
 

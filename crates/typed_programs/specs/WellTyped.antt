@@ -6,11 +6,11 @@ use Rattle.std.specs.Set.{is_member}
 use Rattle.std.specs.Ordering.{nat_cmp}
 use Rattle.std.specs.declared.cmp.Ordering.TheVariants.{Less}
 use Rattle.std.specs.Cmp.Lexicographic.{slice_cmp}
-use Rattle.slang_values.specs.Value.{ValueType, unit_type, truth_type, Records, is_known, AreWellFormed}
+use Rattle.program_trees.specs.Claims.{labels}
+use Rattle.slang_values.specs.Value.{ValueType, unit_type, truth_type, Records, is_known, AreWellFormed, is_value_type}
 use Rattle.program_trees.specs.Programs.{TypedExpr, CodeTree, set, give, assert, deduce, branch, loop, call, CodeTrees, no_code, code_then, MethodTree, GlobalTree, ProgramTree}
 use Rattle.program_trees.specs.Variables.{Variable, local, global, entry, result, same_variable, variable_types}
 use Rattle.run_rules.specs.Runs.{no_method, method_at}
-use Rattle.leg_forms.specs.WellFormed.{is_value_type, labels}
 use Rattle.leg_rules.specs.Typed.{no_labels}
 use Rattle.typed_programs.specs.Parts.{is_constant}
 use Rattle.typed_programs.specs.Scopes.{Scope, is_var, IsNotedIn, IsValueIn, AreValuesIn, AreStepsIn}

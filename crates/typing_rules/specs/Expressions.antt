@@ -1,7 +1,7 @@
 -- Which expressions of a text are well typed, and of which type. Nothing here speaks of faults.
 use Rattle.std.specs.Prelude.{◌≡◌, ◌↔◌, ℕ, Bool, true, false, List, [], ◌∷◌, codes, ⊤, Option, Some, None}
 use Rattle.std.specs.Str.{bytes_eq}
-use Rattle.slang_values.specs.Value.{ValueType, unit_type, number_type, truth_type, sequence_type, record_type}
+use Rattle.slang_values.specs.Value.{ValueType, unit_type, number_type, truth_type, sequence_type, record_type, is_element_type}
 use Rattle.slang_values.specs.declared.operators.Binary.{Binary}
 use Rattle.slang_tree.specs.declared.expression.Name.{Name}
 use Rattle.slang_tree.specs.TypeTree.{TypeTree, z_name, b_name, unit_name, sequence_name, record_name}
@@ -9,7 +9,6 @@ use Rattle.slang_tree.specs.ExprTree.{ExprTree, ExprTrees, no_exprs, expr_then}
 use Rattle.slang_tree.specs.ExprTree as e
 use Rattle.program_trees.specs.Operators.{connective}
 use Rattle.program_trees.specs.Variables.{global}
-use Rattle.leg_forms.specs.WellFormed.{is_element_type}
 use Rattle.type_rules.specs.Meanings.{Meaning, variable, bound_variable, block_variable, record_class, Declared, Field, Scope, meaning_among, meaning_of, is_known, field_types, with_bound}
 use Rattle.type_rules.specs.Expressions.{Context, in_program, in_ensures, in_proof, field_named, Callee, a_value, a_record, a_method, callee, judged}
 

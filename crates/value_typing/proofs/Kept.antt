@@ -1,10 +1,9 @@
 -- The claim of a value of the program is that of the text's expression.
 use Rattle.std.proofs.Common.{◌≡◌, ℕ, ◌+◌, Bool, true, false, cond, List, [], ◌∷◌, ◌++◌, codes, bytes_eq, length, Option, Some, None, refl, ap, ap₂, ◌∙◌}
-use Rattle.slang_values.specs.Value.{ValueType, unit_type, number_type, truth_type, sequence_type, record_type, element_type}
+use Rattle.slang_values.specs.Value.{ValueType, unit_type, number_type, truth_type, sequence_type, record_type, element_type, is_element_type}
 use Rattle.slang_values.specs.Tree.{unary, binary, update, listed, Trees, tree_then, sequence_of, record_of}
 use Rattle.slang_values.specs.declared.operators.Unary.{Unary}
 use Rattle.slang_values.specs.declared.operators.Binary.{Binary}
-use Rattle.leg_forms.specs.WellFormed.{is_element_type}
 use Rattle.slang_tree.specs.declared.place.Place.{Place}
 use Rattle.slang_tree.specs.declared.expression.Name.{Name}
 use Rattle.slang_tree.specs.TypeTree.{TypeTree}

@@ -1,8 +1,8 @@
 -- The claims and the values of a text are well typed in the program.
 use Rattle.std.proofs.Common.{◌≡◌, true, sym, subst}
 use Rattle.std.specs.List.{list_all}
+use Rattle.slang_values.specs.Value.{is_element_type}
 use Rattle.slang_values.specs.Typing.{IsTyped, IsClosed}
-use Rattle.leg_forms.specs.WellFormed.{is_element_type}
 use Rattle.typed_programs.specs.Parts.{element_types}
 use Rattle.typed_programs.specs.Scopes.{claim_names}
 use Rattle.type_rules.specs.Meanings.{meaning_of}

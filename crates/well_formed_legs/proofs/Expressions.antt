@@ -3,7 +3,7 @@ use Rattle.std.proofs.Common.{◌≡◌, ℕ, ◌+◌, ◌*◌, ◌≤◌, max, 
 use Rattle.std.specs.List.{AllByRecursion, list_all}
 use Rattle.std.proofs.lemmas.Bool.{and_parts, and_from}
 use Rattle.std.proofs.lemmas.List.Folds.{list_all-append}
-use Rattle.slang_values.specs.Value.{ValueType}
+use Rattle.slang_values.specs.Value.{ValueType, is_element_type}
 use Rattle.slang_values.specs.Tree.{Tree, unary as unary_tree, binary as binary_tree}
 use Rattle.slang_values.specs.Measure.{height, greatest_height as greatest_claim}
 use Rattle.slang_values.specs.declared.operators.Unary.{Unary}
@@ -12,7 +12,7 @@ use Rattle.program_trees.specs.declared.answer.Kind.TheVariants as kinds
 use Rattle.program_trees.specs.Operators.{Evaluated, always, where_true, where_false, right_evaluated, divides, connective, exchanged, negated, connected}
 use Rattle.program_trees.specs.Claims.{ClaimTree}
 use Rattle.program_trees.specs.Programs.{TypedExpr, number, truth, variable, unary, binary, read, update, listed, TypedExprs, no_exprs, expr_then, claim_of, claims_of}
-use Rattle.leg_forms.specs.WellFormed.{is_checked, is_element_type}
+use Rattle.leg_forms.specs.WellFormed.{is_checked}
 use Rattle.leg_rules.specs.Checks.{Demand, demands, part_demands, under, guarded, own_division, in_range, is_not_zero}
 use Rattle.typed_programs.specs.Parts.{expr_height, greatest_height, element_types, all_element_types, front_elements}
 

@@ -4,13 +4,13 @@ use Rattle.std.specs.Prelude.{nat_eq, ◌&&◌}
 use Rattle.std.specs.List.{AllByRecursion, IsDistinct, list_all}
 use Rattle.std.proofs.lemmas.Bool.{false≢true, and_parts, and_from}
 use Rattle.std.proofs.lemmas.List.Folds.{list_all-append}
-use Rattle.slang_values.specs.Value.{ValueType, unit_type, number_type, truth_type, sequence_type, record_type}
+use Rattle.slang_values.specs.Value.{ValueType, unit_type, number_type, truth_type, sequence_type, record_type, is_element_type, is_value_type}
 use Rattle.slang_values.specs.Tree.{Tree, literal, truth_literal, name, bound, unary, binary, update, quantified, listed, Trees, no_trees, tree_then, sequence_of, record_of}
 use Rattle.slang_values.specs.Measure.{height, greatest_height}
 use Rattle.validity.specs.Bind.{rename, bind_all}
-use Rattle.program_trees.specs.Claims.{ClaimName, variable, old_variable, let_symbol, ClaimTree, ProofStepTree, line, block, ProofStepTrees, no_steps, step_then, renamed_name, renamed_claim, renamed_step, renamed_steps}
+use Rattle.program_trees.specs.Claims.{ClaimName, variable, old_variable, let_symbol, ClaimTree, ProofStepTree, line, block, ProofStepTrees, no_steps, step_then, renamed_name, renamed_claim, renamed_step, renamed_steps, is_empty, step_labels, labels}
 use Rattle.program_trees.specs.Legs.{ItemTree, assume, check, set, fresh, proof, renamed_item}
-use Rattle.leg_forms.specs.WellFormed.{is_element_type, is_value_type, is_front, is_empty, step_labels, labels, IsWellFormedStep, AreWellFormedSteps, IsWellFormedItem}
+use Rattle.leg_forms.specs.WellFormed.{is_front, IsWellFormedStep, AreWellFormedSteps, IsWellFormedItem}
 use Rattle.leg_rules.specs.LegNames.{LegName}
 use Rattle.leg_rules.specs.Legs.{Items}
 use Rattle.leg_rules.specs.Numbering.{Appearance, of_variable, of_type, claim_appears, parts_appear, step_appears, steps_appear, item_appears, leg_appears, renumbered_type, renumbered, all_renumbered, renumbered_step, renumbered_steps, renumbered_item}

@@ -3,11 +3,11 @@ use Rattle.std.proofs.Common.{◌≡◌, ℕ, zero, suc, ◌<◌, Bool, true, Li
 use Rattle.std.specs.Prelude.{nat_eq, slice_get}
 use Rattle.std.specs.List.{AllByRecursion, list_all}
 use Rattle.std.proofs.lemmas.Bool.{and_parts, and_from}
-use Rattle.slang_values.specs.Value.{ValueType, Records, fields, AreWellFormed}
+use Rattle.slang_values.specs.Value.{ValueType, Records, fields, AreWellFormed, is_value_type}
 use Rattle.program_trees.specs.Programs.{MethodTree, ProgramTree}
 use Rattle.program_trees.specs.Variables.{Variable}
 use Rattle.run_rules.specs.Runs.{no_method, method_at}
-use Rattle.leg_forms.specs.WellFormed.{is_front, is_value_type, IsWellFormedLeg}
+use Rattle.leg_forms.specs.WellFormed.{is_front, IsWellFormedLeg}
 use Rattle.leg_rules.specs.LegNames.{LegName, own, of_call, same_name}
 use Rattle.leg_rules.specs.Legs.{Items, legs}
 use Rattle.leg_rules.specs.Numbering.{leg_name_type, leg_tree, number_in, record_order, renumbered_type, variable_order}

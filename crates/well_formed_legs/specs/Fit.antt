@@ -1,10 +1,11 @@
 -- What makes the items of a leg well formed, over names of any kind.
 use Rattle.std.specs.Prelude.{◌≡◌, ℕ, zero, suc, ◌≤◌, nat_eq, true, ⊤}
 use Rattle.std.specs.List.{AllByRecursion, IsDistinct, list_all}
+use Rattle.slang_values.specs.Value.{is_element_type}
 use Rattle.slang_values.specs.Measure.{height}
-use Rattle.program_trees.specs.Claims.{ClaimTree, ProofStepTree, line, block, ProofStepTrees, no_steps, step_then}
+use Rattle.program_trees.specs.Claims.{ClaimTree, ProofStepTree, line, block, ProofStepTrees, no_steps, step_then, is_empty, is_rule, labels}
 use Rattle.program_trees.specs.Legs.{ItemTree, assume, check, set, fresh, proof}
-use Rattle.leg_forms.specs.WellFormed.{is_checked, is_element_type, is_empty, is_rule, labels}
+use Rattle.leg_forms.specs.WellFormed.{is_checked}
 use Rattle.leg_rules.specs.Legs.{Items}
 use Rattle.typed_programs.specs.Parts.{element_types}
 
