@@ -9,6 +9,8 @@ use Rattle.lk_programs.specs.declared.typed.Typed.{Typed}
 use Rattle.leg_rules.specs.Answers.{verdict}
 use Rattle.run_texts.specs.Texts.{Names}
 use Rattle.verdicts.specs.declared.report.Line.{Line}
+use Rattle.verdicts.specs.declared.report.Report.{Report}
+use Rattle.verdicts.specs.declared.report.Report.TheVariants as reports
 use Rattle.verdicts.specs.Choice.{plain_verdict}
 use Rattle.project_reports.specs.Texts as plain
 
@@ -23,6 +25,11 @@ names_in typed = record {
 -- the line as plain data
 abbrev pub plain_line : Line → plain.Line
 plain_line line = record { method = line.method; verdict = plain_verdict line.verdict }
+
+-- the exit code that goes with a report: 2 where there are faults
+abbrev pub report_code : Report → ℕ
+report_code (reports.Faults faults) = 2
+report_code (reports.Verdicts typed lines) = plain.verdicts_code (map plain_line lines)
 
 -- `closing` tells why a sequent is not closed, where it is not. `accepting` tells the label of the first step that is refused, where one is.
 module _ (closing : SequentTree → Option Reason) (accepting : SequentTree → StepTrees → Option ℕ) where

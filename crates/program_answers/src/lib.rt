@@ -6,7 +6,7 @@ mod report;
 
 pub use leg_answers::{CloseEnd, LegProver, Prover};
 pub use lines::program_verdicts;
-pub use report::{program_report, verdicts_code};
+pub use report::{program_report, report_code};
 
 /// Want of memory.
 pub type NoMemory = std::alloc::AllocError;

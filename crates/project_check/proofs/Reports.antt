@@ -1,0 +1,36 @@
+-- What is made of a project is its report.
+use Rattle.std.proofs.Common.{◌≡◌, ℕ, List, [], ◌∷◌, map, refl, sym, ap, ap₂, ◌∙◌}
+use Rattle.slang_tree.specs.declared.place.FileFault.{FileFault}
+use Rattle.lk_programs.specs.declared.typed.Typed.{Typed}
+use Rattle.leg_orders.specs.Places.{program_of}
+use Rattle.leg_answers.specs.Answering.{accepting_by}
+use Rattle.verdict_laws.specs.Rules.{unclosed, is_closed}
+use Rattle.type_rules.specs.Projects.{FileTree}
+use Rattle.typed_texts.specs.TypedProjects.{typed_project}
+use Rattle.project_loading.specs.Ends.{IsProgramOf}
+use Rattle.project_reports.specs.Projects.{NamedText, HasFaults, IsProject}
+use Rattle.project_reports.specs.Projects as p
+use Rattle.project_reports.specs.Texts.{verdicts_text, verdicts_code}
+use Rattle.project_reports.specs.Reports.{names_of, verdict_lines}
+use Rattle.project_reports.specs.Reports as project
+use Rattle.verdicts.specs.Reports.{report_bytes}
+use Rattle.verdicts.specs.declared.report.Report.{Report}
+use Rattle.verdicts.specs.declared.report.Report.TheVariants as reports
+use Rattle.program_answers.specs.Lines.{lines_by, names_in, report_code}
+use Rattle.project_check.specs.Reports.{IsReportOn}
+use Rattle.project_check.proofs.Programs.{names_same, program_same}
+
+-- the verdicts by the rules, told of the typed program as it was made
+pub verdicts_reported : (texts : List NamedText) (made : Typed) (report : Report)
+    → ((revision : ℕ) → report_bytes revision report ≡ verdicts_text revision (names_in made) (lines_by unclosed (accepting_by is_closed) (program_of made)))
+    → report_code report ≡ verdicts_code (lines_by unclosed (accepting_by is_closed) (program_of made))
+    → IsProgramOf texts made → IsReportOn texts report
+verdicts_reported texts made report written coded is revision =
+    let program = program_same made is.files is.project.faultless is.typed in
+    let names = names_same made (typed_project is.files) is.typed in
+    project.verdicts is.files is.project
+    (written revision ∙ ap₂ (λ n p. verdicts_text revision n (lines_by unclosed (accepting_by is_closed) p)) names program)
+    (coded ∙ ap (λ p. verdicts_code (lines_by unclosed (accepting_by is_closed) p)) program)
+
+pub faults_reported : (texts : List NamedText) (found : List FileFault) → HasFaults texts found → IsReportOn texts (reports.Faults found)
+faults_reported texts found has revision = project.faults found has refl refl
