@@ -1,0 +1,71 @@
+ghost use Rattle.std.specs.Prelude.{◌≤◌, ◌<◌, List, IfOk, OnOk, map};
+ghost use Rattle.project_reports.specs.Projects as project;
+ghost use Rattle.project_reading.specs.Texts.{text_seen};
+ghost use Rattle.project_loading.specs.Ends.{IsProgramOf};
+ghost use Rattle.project_check.specs.Reports.{IsReportOn, VerifiedAreSafe};
+
+use crate::NoMemory;
+use crate::lines::found_lines;
+use crate::threads::found_verdicts;
+use lk_programs::Typed;
+use project_check::{check_plain, faults_of};
+use project_loading::load;
+use project_reading::NamedText;
+use std::alloc::Global;
+use std::thread::Threads;
+use verdicts::Report;
+
+/// The verdicts on the methods of a program, by at most so many threads.
+fn report_of<R: Threads + Sync>(
+    rt: &R,
+    alloc: Global,
+    typed: Typed,
+    threads: usize,
+) -> Result<Report, NoMemory>
+    requires { 0 < threads }
+    ensures { IfOk result (λ report. (texts : List project.NamedText) → IsProgramOf texts typed → IsReportOn texts report) }
+{
+    match found_verdicts(rt, alloc, &typed, threads) {
+        Err(_) => Err(NoMemory),
+        Ok(found) => match found_lines(alloc, &typed, &found) {
+            Err(_) => Err(NoMemory),
+            Ok(lines) => Ok(Report::Verdicts { typed, lines }),
+        },
+    }
+}
+
+/// The report on the texts of a project, by at most so many threads.
+fn check_on_threads<R: Threads + Sync>(
+    rt: &R,
+    alloc: Global,
+    texts: &[NamedText],
+    threads: usize,
+) -> Result<Report, NoMemory>
+    requires { 0 < threads }
+    ensures report { IfOk result (IsReportOn (map text_seen texts.now)) }
+    ensures safe { OnOk result (VerifiedAreSafe (map text_seen texts.now)) }
+{
+    match load(alloc, texts) {
+        Ok(typed) => report_of(rt, alloc, typed, threads),
+        Err(end) => faults_of(end),
+    }
+}
+
+/// The report on the texts of a project, where so many workers, 64 at most, find the verdicts: the one of `check_plain`.
+/// Without workers no thread is made.
+pub fn check_fresh<R: Threads + Sync>(
+    rt: &R,
+    alloc: Global,
+    texts: &[NamedText],
+    workers: u32,
+) -> Result<Report, NoMemory>
+    requires { workers ≤ 64 }
+    ensures report { IfOk result (IsReportOn (map text_seen texts.now)) }
+    ensures safe { OnOk result (VerifiedAreSafe (map text_seen texts.now)) }
+{
+    if workers == 0 {
+        check_plain(alloc, texts)
+    } else {
+        check_on_threads(rt, alloc, texts, workers as usize)
+    }
+}
