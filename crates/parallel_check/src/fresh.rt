@@ -11,7 +11,7 @@ use lk_programs::Typed;
 use project_check::{check_plain, faults_of};
 use project_loading::load;
 use project_reading::NamedText;
-use std::alloc::Global;
+use std::alloc::{AllocError, Global};
 use std::thread::Threads;
 use verdicts::Report;
 
@@ -26,9 +26,9 @@ fn report_of<R: Threads + Sync>(
     ensures { IfOk result (λ report. (texts : List project.NamedText) → IsProgramOf texts typed → IsReportOn texts report) }
 {
     match found_verdicts(rt, alloc, &typed, threads) {
-        Err(_) => Err(NoMemory),
+        Err(_) => Err(AllocError),
         Ok(found) => match found_lines(alloc, &typed, &found) {
-            Err(_) => Err(NoMemory),
+            Err(_) => Err(AllocError),
             Ok(lines) => Ok(Report::Verdicts { typed, lines }),
         },
     }

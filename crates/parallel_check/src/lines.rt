@@ -7,7 +7,7 @@ ghost use Rattle.parallel_check.specs.Verdicts.{AreFound, IsVerdictOn};
 use crate::NoMemory;
 use lk_programs::Typed;
 use sqlite_items::Items;
-use std::alloc::Global;
+use std::alloc::{AllocError, Global};
 use verdicts::{Line, Verdict};
 
 /// The verdict on the method of that number, beside its name.
@@ -18,10 +18,10 @@ fn line_of(alloc: Global, typed: &Typed, number: usize, found: Option<Verdict>) 
 {
     let own = &typed.methods.as_slice()[number];
     match found {
-        None => Err(NoMemory),
+        None => Err(AllocError),
         Some(verdict) => match own.name.copy(alloc) {
             Ok(method) => Ok(Line { method, verdict }),
-            Err(_) => Err(NoMemory),
+            Err(_) => Err(AllocError),
         },
     }
 }
@@ -40,10 +40,10 @@ fn add_line(
         ++ line_by unclosed unaccepted (program_of typed.now) (method_of typed.now number) ∷ []) }
 {
     match line_of(alloc, typed, number, found) {
-        Err(_) => Err(NoMemory),
+        Err(_) => Err(AllocError),
         Ok(line) => match lines.push(line) {
             Ok(()) => Ok(()),
-            Err(_) => Err(NoMemory),
+            Err(_) => Err(AllocError),
         },
     }
 }
@@ -72,7 +72,7 @@ fn add_lines(
     for number in 0..typed.methods.len() {
         match add_line(alloc, typed, number, found_at(found, number), lines) {
             Ok(()) => {}
-            Err(_) => return Err(NoMemory),
+            Err(_) => return Err(AllocError),
         }
     }
     Ok(())
@@ -86,6 +86,6 @@ pub fn found_lines(alloc: Global, typed: &Typed, found: &[Option<Verdict>]) -> R
     let mut lines = Items::new(alloc);
     match add_lines(alloc, typed, found, &mut lines) {
         Ok(()) => Ok(lines),
-        Err(_) => Err(NoMemory),
+        Err(_) => Err(AllocError),
     }
 }

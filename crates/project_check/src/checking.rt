@@ -11,7 +11,7 @@ use program_answers::program_report;
 use project_loading::{CheckEnd, load};
 use project_reading::NamedText;
 use rule_prover::RuleProver;
-use std::alloc::Global;
+use std::alloc::{AllocError, Global};
 use verdicts::Report;
 
 /// The verdicts on the methods of a program, one after the other.
@@ -21,7 +21,7 @@ fn report_of(alloc: Global, typed: Typed) -> Result<Report, NoMemory>
     let mut prover = RuleProver::new(0, NeverStop);
     match program_report(alloc, typed, &mut prover) {
         Ok(report) => Ok(report),
-        Err(_) => Err(NoMemory),
+        Err(_) => Err(AllocError),
     }
 }
 
@@ -31,7 +31,7 @@ pub fn faults_of(end: CheckEnd) -> Result<Report, NoMemory>
 {
     match end {
         CheckEnd::Faults(faults) => Ok(Report::Faults(faults)),
-        CheckEnd::NoMemory => Err(NoMemory),
+        CheckEnd::NoMemory => Err(AllocError),
     }
 }
 

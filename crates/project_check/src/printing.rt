@@ -8,7 +8,7 @@ use crate::NoMemory;
 use crate::checking::check_plain;
 use program_answers::report_code;
 use project_reading::NamedText;
-use std::alloc::Global;
+use std::alloc::{AllocError, Global};
 use verdicts::{Report, report_text};
 
 /// What is printed for a project, and the exit code.
@@ -29,7 +29,7 @@ pub fn printed(alloc: Global, report: &Report) -> Result<Checked, NoMemory>
             text,
             code: report_code(report),
         }),
-        Err(_) => Err(NoMemory),
+        Err(_) => Err(AllocError),
     }
 }
 
@@ -42,6 +42,6 @@ pub fn check_texts(alloc: Global, texts: &[NamedText]) -> Result<Checked, NoMemo
 {
     match check_plain(alloc, texts) {
         Ok(report) => printed(alloc, &report),
-        Err(_) => Err(NoMemory),
+        Err(_) => Err(AllocError),
     }
 }
