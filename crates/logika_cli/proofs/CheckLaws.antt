@@ -6,11 +6,10 @@ use Rattle.lk_io.specs.Sink.{SinkState, SinkRun}
 use Rattle.lk_io.specs.declared.sinks.SinkEnd.{SinkEnd}
 use Rattle.lk_io.specs.declared.sinks.SinkEnd.TheVariants.{Failed, NoMemory}
 use Rattle.lk_io.proofs.SinkLaws.{Appends-none, IsQuiet-none}
-use Rattle.fresh_check.specs.Output.{IsOutput}
 use Rattle.logika_cli.specs.Reading.{ReadsWhole, ReadsFront, ReadEnds}
 use Rattle.logika_cli.specs.Writing.{WritesWhole, WritesPart}
 use Rattle.logika_cli.specs.Status.{IsDueOf, EndsBy, no_memory, answer}
-use Rattle.logika_cli.specs.Check.{checked, too_large, check_command}
+use Rattle.logika_cli.specs.Check.{IsOutput, checked, too_large, check_command}
 use Rattle.logika_cli.specs.Stop.{end_of, stop_of_read, stop_of_write, Answers}
 use Rattle.logika_cli.specs.declared.limits.Limits.{Limits}
 use Rattle.logika_cli.specs.declared.reading.ReadEnd.{ReadEnd}

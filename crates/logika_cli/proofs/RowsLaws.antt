@@ -7,7 +7,8 @@ use Rattle.logika_cli.specs.Reading.{HasNoFault}
 use Rattle.logika_cli.specs.Journal.{GetsLine, write_fault_line}
 use Rattle.logika_cli.specs.Status.{Due, End, as_due, read_fault, write_fault, no_memory, refusal, code_of, line_of, EndsBy, FindsNoMemory, RefusesText, HasStatus}
 use Rattle.logika_cli.specs.Check.{IsDueOfCheck, checked, too_large, check_command}
-use Rattle.fresh_check.proofs.OutputLaws.{verified_is_safe}
+use Rattle.project_reports.proofs.Reports.{verified_methods_are_safe}
+use Rattle.logika_cli.specs.Check.{source_texts}
 use Rattle.logika_cli.specs.Rows.{Rows, OutputRefused}
 use Rattle.logika_cli.specs.declared.limits.Limits.{Limits}
 use Rattle.logika_cli.proofs.LimitLaws.{past_or_within, one_line}
@@ -28,7 +29,7 @@ module _ (limits : Limits) (source : SourceRun) (out journal : SinkRun) (code : 
     only = inl (omega arith);
     answered = λ at. record {
       text = text;
-      output = record { input = input; told = told; within = within; output = rw (sym code_is) at output; safe = verified_is_safe input };
+      output = record { input = input; told = told; within = within; output = rw (sym code_is) at output; safe = verified_methods_are_safe (source_texts input) };
       written = record { given = record { adds = given; quiet = quiet }; handed = handed refl };
       silent = line;
     };
@@ -63,7 +64,7 @@ module _ (limits : Limits) (source : SourceRun) (out journal : SinkRun) (code : 
     answered = λ at. absurd (omega arith);
     read_fault = λ at. absurd (omega arith);
     write_fault = λ at. record {
-      given = record { text = text; code = c; output = record { input = input; told = told; within = within; output = output; safe = verified_is_safe input }; given = given };
+      given = record { text = text; code = c; output = record { input = input; told = told; within = within; output = output; safe = verified_methods_are_safe (source_texts input) }; given = given };
       fault = fault.faults;
       line = line;
     };
@@ -79,7 +80,7 @@ module _ (limits : Limits) (source : SourceRun) (out journal : SinkRun) (code : 
   refused : {input : List ℕ} {due : Due} → Tells source.before.left input → IsDueOfCheck limits input due → (due.line ≡ None) ⊎ (due.text ≢ []) → GivesPart out due.text → IsRefusal out
       → OutputRefused limits source out
   refused {input} told (checked {text} {code = c} within output small) writes given refusal = record {
-    given = record { text = text; code = c; output = record { input = input; told = told; within = within; output = output; safe = verified_is_safe input }; given = given };
+    given = record { text = text; code = c; output = record { input = input; told = told; within = within; output = output; safe = verified_methods_are_safe (source_texts input) }; given = given };
     refusal = refusal;
   }
   refused told (too_large passes) writes given refusal = absurd (writes_nothing writes)

@@ -1,10 +1,19 @@
 -- The command `check` over the source.
-use Rattle.std.specs.Prelude.{◌≡◌, ◌≤◌, ℕ, List, []}
-use Rattle.fresh_check.specs.Output.{IsOutput}
+use Rattle.std.specs.Prelude.{◌≡◌, ◌≤◌, ℕ, List, [], ◌∷◌, codes}
+use Rattle.project_reports.specs.Projects.{NamedText}
+use Rattle.project_reports.specs.Reports.{IsReport}
 use Rattle.logika_cli.specs.Limits.{IsWithin, PassesIn}
 use Rattle.logika_cli.specs.Journal.{too_large_line}
 use Rattle.logika_cli.specs.Status.{Due, Command, answer, refusal}
 use Rattle.logika_cli.specs.declared.limits.Limits.{Limits}
+
+-- the input as the one text of a project, whose name is `-`
+abbrev pub source_texts : List ℕ → List NamedText
+source_texts input = record { name = codes "-"; bytes = input } ∷ []
+
+-- the output of an input: the report on it, as the first revision
+abbrev pub IsOutput : List ℕ → List ℕ → ℕ → Type 0
+IsOutput input text code = IsReport 1 (source_texts input) text code
 
 -- Of an input within the limits its output and status are due, and of another the refusal of its first byte past one.
 pub data IsDueOfCheck (limits : Limits) (input : List ℕ) : Due → Type 0 where

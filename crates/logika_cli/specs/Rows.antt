@@ -4,21 +4,22 @@ use Rattle.lk_io.specs.Run.{Rose}
 use Rattle.lk_io.specs.Source.{SourceRun, Tells}
 use Rattle.lk_io.specs.Sink.{SinkRun, GivesPart, IsRefusal}
 use Rattle.lk_io.specs.GiveAll.{GivesWhole}
-use Rattle.fresh_check.specs.Output.{IsOutput, VerifiedIsSafe}
+use Rattle.project_check.specs.Reports.{VerifiedAreSafe}
+use Rattle.logika_cli.specs.Check.{IsOutput, source_texts}
 use Rattle.logika_cli.specs.Limits.{IsWithin, PassesIn}
 use Rattle.logika_cli.specs.Reading.{HasNoFault}
 use Rattle.logika_cli.specs.Writing.{WritesWhole}
 use Rattle.logika_cli.specs.Journal.{GetsLine, too_large_line, read_fault_line, write_fault_line, no_memory_line}
 use Rattle.logika_cli.specs.declared.limits.Limits.{Limits}
 
--- The input, told where the source tells it, is within the limits, and this is its output with its status. No run of a
--- method that the output calls verified fails: of any number of turns, from any arguments that meet its Requires.
+-- The input, told where the source tells it, is within the limits, and this is its output with its status. Where
+-- all methods that a method of it reaches are verified, no run of that method fails: of any number of turns, from any state that meets its Requires.
 pub record HasOutput (limits : Limits) (source : SourceRun) (text : List ℕ) (code : ℕ) : Type 0 where
   pub input : List ℕ
   pub told : Tells source.before.left input
   pub within : IsWithin limits input
   pub output : IsOutput input text code
-  pub safe : VerifiedIsSafe input
+  pub safe : VerifiedAreSafe (source_texts input)
 
 -- 0, 1, 2: the whole output was given and handed on, and nothing was given on the journal.
 pub record Answered (limits : Limits) (source : SourceRun) (out journal : SinkRun) (code : ℕ) : Type 0 where

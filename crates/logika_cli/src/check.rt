@@ -1,6 +1,7 @@
+ghost use Rattle.std.specs.Prelude.{◌≤◌, IfOk};
 ghost use Rattle.lk_io.specs.Run.{run};
 ghost use Rattle.logika_cli.specs.Status.{HasStatus};
-ghost use Rattle.logika_cli.specs.Check.{check_command};
+ghost use Rattle.logika_cli.specs.Check.{check_command, IsOutput};
 ghost use Rattle.logika_cli.specs.Limits.{source_limits};
 ghost use Rattle.logika_cli.specs.Rows.{Rows};
 ghost use Rattle.logika_cli.specs.Stop.{AnswersOrStops};
@@ -10,9 +11,10 @@ use crate::reading::read_text;
 use crate::status::{Status, conclude};
 use crate::stop::Stop;
 use crate::writing::write_pieces;
-use fresh_check::check_text;
 use lk_io::{Sink, Source};
-use std::alloc::Global;
+use project_check::{Checked, check_texts};
+use project_reading::NamedText;
+use std::alloc::{AllocError, Global};
 
 /// The command `check` over the text of the source.
 pub fn check_once<S: Source, O: Sink, J: Sink>(
@@ -33,13 +35,24 @@ pub fn check_once<S: Source, O: Sink, J: Sink>(
     conclude(answer_check(alloc, source, out), journal)
 }
 
+/// What is printed for the text of the source, whose name is `-`.
+fn report_on(alloc: Global, bytes: Vec<u8>) -> Result<Checked, AllocError>
+    ensures exact { IfOk result (λ checked. IsOutput bytes.items checked.text.items checked.code) }
+    ensures code { IfOk result (λ checked. checked.code ≤ 2) }
+{
+    match String::from_str(alloc, "-") {
+        Ok(name) => check_texts(alloc, &[NamedText { name, bytes }]),
+        Err(refused) => Err(refused),
+    }
+}
+
 fn answer_check<S: Source, O: Sink>(alloc: Global, source: &mut S, out: &mut O) -> Result<u8, Stop>
     ensures { AnswersOrStops (check_command source_limits)
         (run (S.state source.old) (S.state source.new))
         (run (O.state out.old) (O.state out.new)) result }
 {
     let text = read_text(alloc, source, LIMITS)?;
-    let checked = check_text(alloc, &text)?;
+    let checked = report_on(alloc, text)?;
     write_pieces(out, &[&checked.text])?;
     Ok(checked.code)
 }

@@ -12,10 +12,10 @@ returns-in_err-write_pieces g c =
     let p = err_from_is_err_and c.from_residual-in_err-write_pieces.result c.from_residual-in_err-write_pieces.ensures.1 in
     rw (p.1, p.2)
     (EndsBy-write _ _ c.in_ok-text.text.items c.in_ok-checked.checked.text.items c.in_ok-checked.checked.code c.in_ok-text.ensures
-    (rw c.deref.ensures.value at c.in_ok-checked.ensures.exact) c.in_ok-checked.ensures.code _ c.in_err-write_pieces.field-0.0
-    (rw c.deref-2.ensures.value at c.in_err-write_pieces.ensures))
+    c.in_ok-checked.ensures.exact c.in_ok-checked.ensures.code _ c.in_err-write_pieces.field-0.0
+    (rw c.deref.ensures.value at c.in_err-write_pieces.ensures))
 
 pub returns : goal.returns
 returns g c =
     Answers-whole _ _ c.in_ok-text.text.items c.in_ok-checked.checked.text.items c.in_ok-checked.checked.code c.in_ok-text.ensures
-    (rw c.deref.ensures.value at c.in_ok-checked.ensures.exact) c.in_ok-checked.ensures.code _ (rw c.deref-2.ensures.value at c.in_ok-write_pieces.ensures)
+    c.in_ok-checked.ensures.exact c.in_ok-checked.ensures.code _ (rw c.deref.ensures.value at c.in_ok-write_pieces.ensures)
