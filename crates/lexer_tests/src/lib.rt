@@ -2,6 +2,9 @@
 #![tactic(auto)]
 
 #[cfg(test)]
+mod texts;
+
+#[cfg(test)]
 mod tests {
     use slang_lexer::{TokenKind, next_token, number_value};
 

@@ -10,7 +10,6 @@ use Rattle.slang_tree.specs.declared.statement.Label.{Label}
 use Rattle.slang_tree.specs.StmtTree.{line, no_steps, step_then, StmtTree, val, assignment, call, branch, assertion, deduction, stmts_of, else_then}
 use Rattle.slang_tree.specs.DeclTree.{const_truth, const_number, const_record, consts_of, DeclTree}
 use Rattle.type_rules.specs.Projects.{first_faults}
-use Rattle.left_out_forms.specs.LeftOut.{first_left_out}
 use Rattle.typing_examples.specs.Written.{at, word, f, g, x, y, one, applied, val_x, f_with, g_modifies, global_z, var_z, class_with, class_of_many, file_named, alone, told, only}
 
 -- `x = 2`
@@ -106,8 +105,6 @@ pub record TypingExamples : Type 0 where
   pub one_cited : first_faults (alone (f_with (proved_by (codes "AndI") (label 2 (at 2 24) ∷ []) ∷ []) ∷ [])) ≡ only 9 2 19
   pub label_twice : first_faults (alone (f_with (repeated ∷ []) ∷ [])) ≡ only 7 2 25
   -- forms that a check has not yet
-  pub none_left_out : first_left_out (alone (f_with (asserted (e.truth (at 2 10)) ∷ []) ∷ [])) ≡ []
-  pub proof_left_out : first_left_out (alone (f_with (repeated ∷ []) ∷ var_z x ∷ [])) ≡ only 14 2 3
   -- several files, in the order of their names, one fault for each
   pub files : first_faults (file_named (codes "b.sc") (global_z x (const_truth (at 9 12)) ∷ [])
       ∷ file_named (codes "a.sc") (var_z x ∷ f_with (asserted (e.name y (at 2 10)) ∷ []) ∷ []) ∷ [])

@@ -35,7 +35,5 @@ returns c = record {
   no_rule = refl;
   one_cited = refl;
   label_twice = refl;
-  none_left_out = refl;
-  proof_left_out = refl;
   files = refl;
 }

@@ -1,2 +1,0 @@
-pub mod Opposites
-pub mod Closings

@@ -1,2 +1,0 @@
-pub mod CanonicalParts
-pub mod Outside

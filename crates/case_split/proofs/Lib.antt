@@ -1,4 +1,0 @@
-mod Lists
-mod Joined
-mod Counts
-mod Facts

@@ -1,3 +1,0 @@
-pub mod NodeLaws
-pub mod OutputLaws
-pub mod TextLaws

@@ -1,9 +1,0 @@
-pub mod Evaluation
-pub mod Laws
-pub mod Legs
-pub mod Runs
-pub mod Sequents
-pub mod Store
-pub mod Symbols
-pub mod Typed
-pub mod Values

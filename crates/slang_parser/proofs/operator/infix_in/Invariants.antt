@@ -1,7 +1,0 @@
-use Rattle.std.proofs.Common.{◌≡◌, drop, map}
-use Rattle.slang_parser.specs.Operators.{infix_in}
-use Rattle.slang_parser.specs.Machine.{row_infix}
-use Rattle.slang_parser.proofs.operator.infix_in.Given as goal
-
-abbrev pub invariant-loop-sign : goal.invariant-loop-sign
-invariant-loop-sign l = infix_in (map row_infix (drop l.sign-index l.rows)) l.kind ≡ infix_in (map row_infix l.rows) l.kind

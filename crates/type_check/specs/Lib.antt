@@ -1,9 +1,0 @@
-pub mod Expressions
-pub mod Fault
-pub mod Laws
-pub mod Nodes
-pub mod Refusal
-pub mod Scope
-pub mod Statements
-pub mod Types
-pub mod Typing
