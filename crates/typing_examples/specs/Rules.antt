@@ -104,7 +104,6 @@ pub record TypingExamples : Type 0 where
   pub no_rule : first_faults (alone (f_with (proved_by x [] ∷ []) ∷ [])) ≡ only 6 2 19
   pub one_cited : first_faults (alone (f_with (proved_by (codes "AndI") (label 2 (at 2 24) ∷ []) ∷ []) ∷ [])) ≡ only 9 2 19
   pub label_twice : first_faults (alone (f_with (repeated ∷ []) ∷ [])) ≡ only 7 2 25
-  -- forms that a check has not yet
   -- several files, in the order of their names, one fault for each
   pub files : first_faults (file_named (codes "b.sc") (global_z x (const_truth (at 9 12)) ∷ [])
       ∷ file_named (codes "a.sc") (var_z x ∷ f_with (asserted (e.name y (at 2 10)) ∷ []) ∷ []) ∷ [])
