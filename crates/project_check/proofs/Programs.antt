@@ -1,5 +1,5 @@
 -- The typed program as it was made is that of the project, and its numbers stand for the same.
-use Rattle.std.proofs.Common.{◌≡◌, ℕ, List, [], ◌∷◌, map, length, refl, sym, ap, ap₂, ◌∙◌}
+use Rattle.std.proofs.Common.{◌≡◌, ℕ, List, [], ◌∷◌, map, refl, ap, ◌∙◌}
 use Rattle.lk_programs.specs.declared.typed.Typed.{Typed}
 use Rattle.lk_programs.specs.declared.program.NodePlace.{NodePlace}
 use Rattle.lk_programs.specs.declared.program.RecordTy.{RecordTy}
