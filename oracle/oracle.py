@@ -12,6 +12,7 @@ deduction, `runs.py` runs, and `whole.py` the report on a project. `compare.py` 
     oracle/oracle.py < text
 """
 import sys
+import threading
 
 sys.dont_write_bytecode = True      # leaves no folder of compiled files behind
 sys.setrecursionlimit(1_000_000)    # the terms of long sums are high
@@ -20,6 +21,7 @@ from whole import report            # noqa: E402
 
 TEXT_LIMIT = 67_108_864
 LINE_LIMIT = 1_048_576
+STACK = 1 << 29
 
 
 def check(data: bytes) -> tuple[str, int]:
@@ -35,5 +37,15 @@ def main() -> int:
     return status
 
 
+def on_deep_stack(work) -> int:
+    """What the work answers, which is done on a stack that is deep enough for the terms of long sums."""
+    answers = []
+    threading.stack_size(STACK)
+    worker = threading.Thread(target=lambda: answers.append(work()), daemon=True)
+    worker.start()
+    worker.join()
+    return answers[0] if answers else 1
+
+
 if __name__ == "__main__":
-    sys.exit(main())
+    sys.exit(on_deep_stack(main))
