@@ -3,8 +3,8 @@
 
     oracle/compare.py [--projects] [COUNT] [SEED] [FIRST]       2000 texts of seed 1 from number 0, where nothing is said
 
-The texts have the forms that are verified today, or with --projects those of the whole language and mutants of them. Each text is made from
-the seed and its own number alone. A difference is printed with its text; the last line counts.
+The texts have one method of numbers and truth values, made for the limits of closing, or with --projects all forms of the language; some
+are mutants. Each text is made from the seed and its own number alone. A difference is printed with its text; the last line counts.
 """
 import pathlib
 import random
@@ -381,4 +381,4 @@ def main() -> int:
 
 
 if __name__ == "__main__":
-    sys.exit(main())
+    sys.exit(oracle.on_deep_stack(main))
