@@ -145,9 +145,9 @@ class Project:
             return UNIT
         if type_.word == "ISZ":
             if type_.element.word == "ISZ":
-                # the inner type is none that an element may have; its own parts come first
-                if self.type(type_.element, scope) is not None:
-                    self.file.add(8, type_.element.place)
+                # the inner type is none that an element may have, whatever is wrong within it
+                self.type(type_.element, scope)
+                self.file.add(8, type_.element.place)
                 return None
             element = self.type(type_.element, scope)
             return None if element is None else ("ISZ", element)
