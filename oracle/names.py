@@ -95,10 +95,14 @@ class Project:
         self.known = known
         self.records = {name: it for name, it in known.items() if isinstance(it, Record)}
         self.check_records()
-        for name, declarations in self.files:
-            self.file = self.faults[name]
-            for declaration in declarations:
-                self.declare_one(declaration, known[declaration.name.text] is declaration)
+        # all names are known in constants, also those that are declared behind
+        self.globals = {name: Variable("global", None) for name, it in known.items() if isinstance(it, Global)}
+        for constants in (False, True):
+            for name, declarations in self.files:
+                self.file = self.faults[name]
+                for declaration in declarations:
+                    if isinstance(declaration, Global) == constants:
+                        self.declare_one(declaration, known[declaration.name.text] is declaration)
 
     def declare_one(self, declaration, is_first: bool) -> None:
         name = declaration.name.text
@@ -141,9 +145,9 @@ class Project:
             return UNIT
         if type_.word == "ISZ":
             if type_.element.word == "ISZ":
-                # the inner type is none that an element may have; its own parts come first
-                if self.type(type_.element, scope) is not None:
-                    self.file.add(8, type_.element.place)
+                # the inner type is none that an element may have, whatever is wrong within it
+                self.type(type_.element, scope)
+                self.file.add(8, type_.element.place)
                 return None
             element = self.type(type_.element, scope)
             return None if element is None else ("ISZ", element)

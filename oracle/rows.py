@@ -200,6 +200,10 @@ CHECKS = {
     "too high behind another fault": (high(1000, before="  val x: Z = z\n"), "-:2:14 E6 unknown name"),
     "not UTF-8": (b"def \xff", "-:1:5 E1 not UTF-8"),
     "open comment": ("/*", "-:1:1 E2 bad character"),
+    "record made before it is declared": ("val w: V = V(3)\n@datatype class V(n: Z)\n", "methods 0 verified 0"),
+    "sequence of sequences of nothing": ("def f(a: ISZ[ISZ[Q]]): Unit = { }", "-:1:14 E8 type differs"),
+    "method in a constant before it is declared": (
+        "val a: Z = f(1)\ndef f(x: Z): Z = {\n  return x\n}", "-:1:12 E12 call in the wrong place"),
     # beyond the worked rows: one for each sentence on legs that none of them needs
     "guards of divisions": (
         method("g(x: Z, y: Z): B", "", "return (x != 0) -->: (y == 0 || 1 / x + 6 / y > 0)"), one("g", "verified")),
