@@ -24,9 +24,10 @@ from terms import Terms                             # noqa: E402
 from text import TextFault                          # noqa: E402
 from whole import report                            # noqa: E402
 
-CONTROLLERS = pathlib.Path(__file__).resolve().parent.parent / "examples" / "controllers"
+EXAMPLES = pathlib.Path(__file__).resolve().parent.parent / "examples"
+CONTROLLERS, PROOFS = EXAMPLES / "controllers", EXAMPLES / "proofs"
 BURN = CONTROLLERS / "burn.sc"
-DOCUMENTS = CONTROLLERS.parent.parent / "docs"
+DOCUMENTS = EXAMPLES.parent / "docs"
 SHOWN = re.compile(r"```scala\n(.*?)```\n\n```\n(.*?)```", re.S)
 
 # ---------------------------------------------------------------- texts
@@ -371,7 +372,7 @@ RUNS = {
         f"s 1 {GREATEST}", "ended ()"),
     "another type": (INC, "inc 1 T", "arguments"),
     "blanks after a minus": (INC, ["inc", "0", "-  1"], "fails requires -:1:5"),
-    # each controller in its own way wrong
+    # each example in its own way wrong
     "more spent than there is": (
         CONTROLLERS / "burn-wrong.sc", ["spend", "9", "Burn(1, 1001)"], "fails ensures -:36:40"),
     "wound up": (CONTROLLERS / "saturation-wrong.sc", "command 99 0 101", "fails ensures -:29:7"),
@@ -379,9 +380,14 @@ RUNS = {
     "past the end": (CONTROLLERS / "ring-wrong.sc", "rounds 999 8", "fails ensures -:47:7"),
     "reset by a sign of life": (
         CONTROLLERS / "watchdog-wrong.sc", ["watch", "99", "ISZ(F, F, F, T)"], "fails ensures -:14:8"),
+    "the last reading": (PROOFS / "scan-wrong.sc", ["firstAbove", "99", "ISZ(1)", "5"], "fails ensures -:9:8"),
+    "out of order": (PROOFS / "ascending-wrong.sc", ["appended", "99", "ISZ(1, 5)", "3"], "fails ensures -:12:7"),
     "limited": (CONTROLLERS / "saturation.sc", "command 99 101 0", "ended 100"),
     "eight rounds": (CONTROLLERS / "ring.sc", "rounds 999 8", "ended ()"),
     "tripped for good": (CONTROLLERS / "watchdog.sc", ["watch", "99", "ISZ(F, F, F, T)"], "ended T"),
+    "one above": (PROOFS / "scan.sc", ["alarm", "99", "ISZ(1, 9, 2)", "5"], "ended T"),
+    "none above": (PROOFS / "scan.sc", ["alarm", "99", "ISZ(1, 4, 2)", "5"], "ended F"),
+    "peaks": (PROOFS / "ascending.sc", ["peaks", "99", "ISZ(1, 4, 2)"], "ended ISZ(1, 4, 4)"),
 }
 
 # ---------------------------------------------------------------- proofs
@@ -456,7 +462,7 @@ def ran(text, words) -> str:
 
 
 def answers():
-    for path in sorted(CONTROLLERS.glob("*.sc")):
+    for path in sorted(it.with_suffix(".sc") for it in EXAMPLES.glob("*/*.report")):
         wanted = path.with_suffix(".report").read_text()
         yield f"example {path.stem}", lambda path=path: report([(path.name, path.read_bytes())])[0], wanted
     for path in sorted(DOCUMENTS.glob("*.md")):
