@@ -1,0 +1,5 @@
+pub mod Lists
+pub mod Sequences
+pub mod Ends
+pub mod Behind
+pub mod Found

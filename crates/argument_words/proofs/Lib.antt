@@ -1,0 +1,4 @@
+pub mod FirstBytes
+pub mod Blanks
+pub mod Cuts
+pub mod Next

@@ -1,0 +1,2 @@
+pub mod StepLabels
+pub mod Tested

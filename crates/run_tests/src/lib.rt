@@ -1,0 +1,5 @@
+//! The command `run` on small texts: what it writes, and its code.
+#![tactic(auto)]
+
+#[cfg(test)]
+mod runs;

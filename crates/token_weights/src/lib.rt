@@ -1,0 +1,10 @@
+//! How deep tokens nest: whether any of them weighs more than the limit.
+#![tactic(auto)]
+
+mod counts;
+mod kinds;
+
+pub use counts::is_light;
+
+/// Want of memory.
+pub type NoMemory = std::alloc::AllocError;
