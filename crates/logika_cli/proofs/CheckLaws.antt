@@ -6,14 +6,14 @@ use Rattle.lk_io.specs.Sink.{SinkState, SinkRun}
 use Rattle.lk_io.specs.declared.sinks.SinkEnd.{SinkEnd}
 use Rattle.lk_io.specs.declared.sinks.SinkEnd.TheVariants.{Failed, NoMemory}
 use Rattle.lk_io.proofs.SinkLaws.{Appends-none, IsQuiet-none}
-use Rattle.logika_cli.specs.Reading.{ReadsWhole, ReadsFront, ReadEnds}
+use Rattle.text_reading.specs.Reading.{ReadsWhole, ReadsFront, ReadEnds}
 use Rattle.logika_cli.specs.Writing.{WritesWhole, WritesPart}
 use Rattle.logika_cli.specs.Status.{IsDueOf, EndsBy, no_memory, answer}
 use Rattle.logika_cli.specs.Check.{IsOutput, checked, too_large, check_command}
 use Rattle.logika_cli.specs.Stop.{end_of, stop_of_read, stop_of_write, Answers}
-use Rattle.logika_cli.specs.declared.limits.Limits.{Limits}
-use Rattle.logika_cli.specs.declared.reading.ReadEnd.{ReadEnd}
-use Rattle.logika_cli.specs.declared.reading.ReadEnd.TheVariants.{ReadFault, TooLarge, NoMemory as unread}
+use Rattle.text_reading.specs.declared.limits.Limits.{Limits}
+use Rattle.text_reading.specs.declared.reading.ReadEnd.{ReadEnd}
+use Rattle.text_reading.specs.declared.reading.ReadEnd.TheVariants.{ReadFault, TooLarge, NoMemory as unread}
 
 -- Memory ran out while nothing was given.
 pub EndsBy-no_memory : (limits : Limits) (source : SourceRun) (out : SinkState) → ReadsFront source → EndsBy (check_command limits) source (run out out) no_memory

@@ -1,6 +1,3 @@
-pub mod LimitLaws
-pub mod GaugeLaws
-pub mod ReadingLaws
 pub mod WritingLaws
 pub mod StatusLaws
 pub mod CheckLaws

@@ -3,15 +3,15 @@ use Rattle.std.proofs.Common.{◌≡◌, ◌≢◌, ◌⊎◌, ℕ, List, [], Op
 use Rattle.lk_io.specs.Source.{SourceRun, Tells}
 use Rattle.lk_io.specs.Sink.{SinkRun, Appends, GivesPart, HasHandedOn, IsQuiet, IsFault, IsRefusal}
 use Rattle.lk_io.specs.GiveAll.{GivesWhole}
-use Rattle.logika_cli.specs.Reading.{HasNoFault}
+use Rattle.text_reading.specs.Reading.{HasNoFault}
 use Rattle.logika_cli.specs.Journal.{GetsLine, write_fault_line}
 use Rattle.logika_cli.specs.Status.{Due, End, as_due, read_fault, write_fault, no_memory, refusal, code_of, line_of, EndsBy, FindsNoMemory, RefusesText, HasStatus}
 use Rattle.logika_cli.specs.Check.{IsDueOfCheck, checked, too_large, check_command}
 use Rattle.project_reports.proofs.Reports.{verified_methods_are_safe}
 use Rattle.logika_cli.specs.Check.{source_texts}
 use Rattle.logika_cli.specs.Rows.{Rows, OutputRefused}
-use Rattle.logika_cli.specs.declared.limits.Limits.{Limits}
-use Rattle.logika_cli.proofs.LimitLaws.{past_or_within, one_line}
+use Rattle.text_reading.specs.declared.limits.Limits.{Limits}
+use Rattle.text_reading.proofs.LimitLaws.{past_or_within, one_line}
 
 -- A told input is the one that is told.
 told_is : {left : Option (List ℕ)} (input told : List ℕ) → left ≡ Some told → Tells left input → told ≡ input

@@ -9,7 +9,7 @@ use Rattle.logika_cli.specs.Journal.{GetsLine, words_line}
 use Rattle.logika_cli.specs.Status.{Due, IsDueOf, End, as_due, read_fault, write_fault, no_memory, refusal, EndsBy, HasStatus}
 use Rattle.logika_cli.specs.Check.{check_command}
 use Rattle.logika_cli.specs.Words.{IsCheck, command_of, refused, check}
-use Rattle.logika_cli.specs.declared.limits.Limits.{Limits}
+use Rattle.text_reading.specs.declared.limits.Limits.{Limits}
 
 -- Of one word that is the first.
 pub map-one : {X : Type 0} (f : X → List ℕ) (words : List X) (word : X) → 1 ≤ length words → length words < 2 → word ≡ get_or words 0 word → map f words ≡ f word ∷ []

@@ -2,10 +2,10 @@
 use Rattle.std.specs.Prelude.{◌≡◌, ◌≤◌, ℕ, List, [], ◌∷◌, codes}
 use Rattle.project_reports.specs.Projects.{NamedText}
 use Rattle.project_reports.specs.Reports.{IsReport}
-use Rattle.logika_cli.specs.Limits.{IsWithin, PassesIn}
+use Rattle.text_reading.specs.Limits.{IsWithin, PassesIn}
 use Rattle.logika_cli.specs.Journal.{too_large_line}
 use Rattle.logika_cli.specs.Status.{Due, Command, answer, refusal}
-use Rattle.logika_cli.specs.declared.limits.Limits.{Limits}
+use Rattle.text_reading.specs.declared.limits.Limits.{Limits}
 
 -- the input as the one text of a project, whose name is `-`
 abbrev pub source_texts : List ℕ → List NamedText

@@ -1,6 +1,3 @@
-pub mod Limits
-pub mod Gauge
-pub mod Reading
 pub mod Writing
 pub mod Journal
 pub mod Status

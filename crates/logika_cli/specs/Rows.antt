@@ -6,11 +6,11 @@ use Rattle.lk_io.specs.Sink.{SinkRun, GivesPart, IsRefusal}
 use Rattle.lk_io.specs.GiveAll.{GivesWhole}
 use Rattle.project_check.specs.Reports.{VerifiedAreSafe}
 use Rattle.logika_cli.specs.Check.{IsOutput, source_texts}
-use Rattle.logika_cli.specs.Limits.{IsWithin, PassesIn}
-use Rattle.logika_cli.specs.Reading.{HasNoFault}
+use Rattle.text_reading.specs.Limits.{IsWithin, PassesIn}
+use Rattle.text_reading.specs.Reading.{HasNoFault}
 use Rattle.logika_cli.specs.Writing.{WritesWhole}
 use Rattle.logika_cli.specs.Journal.{GetsLine, too_large_line, read_fault_line, write_fault_line, no_memory_line}
-use Rattle.logika_cli.specs.declared.limits.Limits.{Limits}
+use Rattle.text_reading.specs.declared.limits.Limits.{Limits}
 
 -- The input, told where the source tells it, is within the limits, and this is its output with its status. Where
 -- all methods that a method of it reaches are verified, no run of that method fails: of any number of turns, from any state that meets its Requires.

@@ -3,7 +3,7 @@ use Rattle.std.specs.Prelude.{◌≡◌, ◌≢◌, ℕ, List, [], ◌⊎◌, Op
 use Rattle.lk_io.specs.Run.{Rose}
 use Rattle.lk_io.specs.Source.{SourceRun, Tells, Consumes}
 use Rattle.lk_io.specs.Sink.{SinkRun, Appends, GivesPart, HasHandedOn, IsQuiet, IsFault, IsRefusal}
-use Rattle.logika_cli.specs.Reading.{HasNoFault}
+use Rattle.text_reading.specs.Reading.{HasNoFault}
 use Rattle.logika_cli.specs.Journal.{GetsLine, read_fault_line, write_fault_line, no_memory_line}
 
 -- What is due: a text on the output, a status, and for some statuses a last line on the journal.

@@ -5,7 +5,7 @@ use Rattle.lk_io.specs.Sink.{SinkRun}
 use Rattle.logika_cli.specs.Journal.{words_line, too_large_line}
 use Rattle.logika_cli.specs.Status.{Command, End, as_due, read_fault, write_fault, no_memory, answer, refusal, EndsBy}
 use Rattle.lk_io.specs.declared.sinks.SinkEnd.{SinkEnd}
-use Rattle.logika_cli.specs.declared.reading.ReadEnd.{ReadEnd}
+use Rattle.text_reading.specs.declared.reading.ReadEnd.{ReadEnd}
 use Rattle.logika_cli.specs.declared.stop.Stop.{Stop}
 use Rattle.logika_cli.specs.declared.stop.Stop.TheVariants.{WordsRefused, ReadFault, WriteFault, NoMemory, TooLarge}
 

@@ -3,7 +3,7 @@ use Rattle.std.specs.Prelude.{◌≡◌, ℕ, List, [], ◌∷◌, codes}
 use Rattle.logika_cli.specs.Journal.{words_line}
 use Rattle.logika_cli.specs.Status.{Due, Command, refusal}
 use Rattle.logika_cli.specs.Check.{IsDueOfCheck}
-use Rattle.logika_cli.specs.declared.limits.Limits.{Limits}
+use Rattle.text_reading.specs.declared.limits.Limits.{Limits}
 
 -- The words that are read: `check` alone.
 abbrev pub IsCheck : List (List ℕ) → Type 0

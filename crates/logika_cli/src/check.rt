@@ -2,12 +2,10 @@ ghost use Rattle.std.specs.Prelude.{◌≤◌, IfOk};
 ghost use Rattle.lk_io.specs.Run.{run};
 ghost use Rattle.logika_cli.specs.Status.{HasStatus};
 ghost use Rattle.logika_cli.specs.Check.{check_command, IsOutput};
-ghost use Rattle.logika_cli.specs.Limits.{source_limits};
+ghost use Rattle.text_reading.specs.Limits.{source_limits};
 ghost use Rattle.logika_cli.specs.Rows.{Rows};
 ghost use Rattle.logika_cli.specs.Stop.{AnswersOrStops};
 
-use crate::limits::LIMITS;
-use crate::reading::read_text;
 use crate::status::{Status, conclude};
 use crate::stop::Stop;
 use crate::writing::write_pieces;
@@ -15,6 +13,7 @@ use lk_io::{Sink, Source};
 use project_check::{Checked, check_texts};
 use project_reading::NamedText;
 use std::alloc::{AllocError, Global};
+use text_reading::{LIMITS, read_text};
 
 /// The command `check` over the text of the source.
 pub fn check_once<S: Source, O: Sink, J: Sink>(

@@ -2,15 +2,12 @@
 #![tactic(auto)]
 
 mod check;
-mod gauge;
-mod limits;
-mod reading;
 mod status;
 mod stop;
 mod top;
 mod writing;
 
 pub use check::check_once;
-pub use limits::{LIMITS, Limits};
 pub use status::Status;
+pub use text_reading::{LIMITS, Limits};
 pub use top::{end_without_memory, logika_main};

@@ -5,11 +5,11 @@ ghost use Rattle.std.specs.List.{flat_map};
 ghost use Rattle.logika_cli.specs.Journal.{GetsLine, too_large_line};
 ghost use Rattle.logika_cli.specs.Stop.{end_of};
 
-use crate::reading::ReadEnd;
 use crate::writing::write_pieces;
 use itoa::Buffer;
 use lk_io::{Sink, SinkEnd};
 use std::alloc::AllocError;
+use text_reading::ReadEnd;
 
 /// Why a command gave no answer. Each has a status and a line of the journal.
 #[derive(Debug, Drop, PartialEq, Eq)]

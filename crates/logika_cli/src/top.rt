@@ -3,7 +3,7 @@ ghost use Rattle.std.specs.String.{string_bytes};
 ghost use Rattle.lk_io.specs.Run.{run};
 ghost use Rattle.logika_cli.specs.Status.{HasStatus};
 ghost use Rattle.logika_cli.specs.Words.{IsCheck, command_of};
-ghost use Rattle.logika_cli.specs.Limits.{source_limits};
+ghost use Rattle.text_reading.specs.Limits.{source_limits};
 ghost use Rattle.logika_cli.specs.Rows.{Rows};
 ghost use Rattle.logika_cli.specs.Journal.{GetsLine, words_line, no_memory_line};
 

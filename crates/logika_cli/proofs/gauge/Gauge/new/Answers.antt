@@ -1,6 +1,0 @@
-use Rattle.std.proofs.Common.{refl}
-use Rattle.logika_cli.proofs.GaugeLaws.{HasCounted-none}
-use Rattle.logika_cli.proofs.gauge.Gauge.new.Goals as goal
-
-pub returns-clause-counted : goal.returns-clause-counted
-returns-clause-counted c = HasCounted-none _ refl refl refl
