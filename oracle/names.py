@@ -95,10 +95,13 @@ class Project:
         self.known = known
         self.records = {name: it for name, it in known.items() if isinstance(it, Record)}
         self.check_records()
-        for name, declarations in self.files:
-            self.file = self.faults[name]
-            for declaration in declarations:
-                self.declare_one(declaration, known[declaration.name.text] is declaration)
+        # A constant may name a record that is declared behind it, or in a later file.
+        for constants in (False, True):
+            for name, declarations in self.files:
+                self.file = self.faults[name]
+                for declaration in declarations:
+                    if isinstance(declaration, Global) == constants:
+                        self.declare_one(declaration, known[declaration.name.text] is declaration)
 
     def declare_one(self, declaration, is_first: bool) -> None:
         name = declaration.name.text
@@ -386,10 +389,10 @@ class Typer:
             before = self.project.file.count
             types = self.typed(arguments)
             sound = types is not None and self.project.file.count == before
-            if named is None:
+            if named is None and not (self.where.kind == "const" and head.name.text in self.project.known):
                 self.fault(6, head.place)
                 return None
-            if self.where.kind == "const" and named.kind != "record":
+            if self.where.kind == "const" and (named is None or named.kind != "record"):
                 self.fault(12, head.place)
                 return None
             if not sound or not named.is_sound:
