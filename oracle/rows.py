@@ -173,6 +173,9 @@ CHECKS = {
     "two files": (
         {"b.sc": "val t: Z = T\n", "a.sc": "def f(): Z = {\n  return y\n}\n"},
         "a.sc:2:10 E6 unknown name / b.sc:1:12 E8 type differs"),
+    "record behind its constant": (
+        {"a.sc": "val c: R = R(1)\n", "b.sc": "@datatype class R(x: Z)\n"}, "methods 0 verified 0"),
+    "global applied in a constant": ("val b: Z = a(1)\nval a: Z = 0\n", "-:1:12 E12 call in the wrong place"),
     "no invariant": ("def w(): Unit = {\n  while (T) {\n  }\n}", "-:3:3 E13 loop without Invariant"),
     "call in return": (INC + "def u(): Z = {\n  return inc(1)\n}", "-:9:10 E12 call in the wrong place"),
     "old and entry value": (bump("Modifies(g); "), one("bump", "verified")),
