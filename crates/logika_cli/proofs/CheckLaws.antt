@@ -16,7 +16,8 @@ use Rattle.text_reading.specs.declared.reading.ReadEnd.{ReadEnd}
 use Rattle.text_reading.specs.declared.reading.ReadEnd.TheVariants.{ReadFault, TooLarge, NoMemory as unread}
 
 -- Memory ran out while nothing was given.
-pub EndsBy-no_memory : (limits : Limits) (source : SourceRun) (out : SinkState) → ReadsFront source → EndsBy (check_command limits) source (run out out) no_memory
+pub EndsBy-no_memory : (limits : Limits) (source : SourceRun) (out : SinkState) → ReadsFront source
+    → EndsBy (check_command limits) source (run out out) no_memory
 EndsBy-no_memory limits source out read = record {
   read = read.no_fault;
   cause = inl (record { front = read.front; taken = read.taken; text = []; earlier = refl; given = Appends-none out; quiet = IsQuiet-none out });
@@ -43,7 +44,8 @@ EndsBy-read limits source out (TooLarge line) read = record {
 }
 EndsBy-read limits source out unread read = EndsBy-no_memory limits source out read
 
-module _ (limits : Limits) (source : SourceRun) (input text : List ℕ) (code : ℕ) (read : ReadsWhole limits source input) (output : IsOutput input text code) (small : code ≤ 2) where
+module _ (limits : Limits) (source : SourceRun) (input text : List ℕ) (code : ℕ) (read : ReadsWhole limits source input)
+    (output : IsOutput input text code) (small : code ≤ 2) where
   is_due : IsDueOf (check_command limits) source (answer text code)
   is_due = record { input = input; told = read.told; is_due = checked read.within output small }
 
@@ -66,5 +68,6 @@ module _ (limits : Limits) (source : SourceRun) (input text : List ℕ) (code : 
   pub Answers-whole : (out : SinkRun) → WritesWhole out (text ++ []) → Answers (check_command limits) source out code
   Answers-whole out wrote = record {
     text = text;
-    ends = record { is_due = is_due; read = read.no_fault; given = rw (append-nil text) at wrote.given.adds; handed = λ _. wrote.handed; quiet = wrote.given.quiet };
+    ends =
+        record { is_due = is_due; read = read.no_fault; given = rw (append-nil text) at wrote.given.adds; handed = λ _. wrote.handed; quiet = wrote.given.quiet };
   }

@@ -5,11 +5,13 @@ use Rattle.lk_io.specs.Sink.{SinkRun, Appends, GivesPart, HasHandedOn, IsQuiet, 
 use Rattle.lk_io.specs.GiveAll.{GivesWhole}
 use Rattle.text_reading.specs.Reading.{HasNoFault}
 use Rattle.logika_cli.specs.Journal.{GetsLine, write_fault_line}
-use Rattle.logika_cli.specs.Status.{Due, End, as_due, read_fault, write_fault, no_memory, refusal, code_of, line_of, EndsBy, FindsNoMemory, RefusesText, HasStatus}
+use Rattle.logika_cli.specs.Status.{Due, End, as_due, read_fault, write_fault, no_memory, refusal, code_of, line_of, EndsBy, FindsNoMemory, RefusesText}
+use Rattle.logika_cli.specs.Status.{HasStatus}
 use Rattle.logika_cli.specs.Check.{IsDueOfCheck, checked, too_large, check_command}
 use Rattle.project_reports.proofs.Reports.{verified_methods_are_safe}
-use Rattle.logika_cli.specs.Check.{source_texts}
-use Rattle.logika_cli.specs.Rows.{Rows, OutputRefused}
+use Rattle.logika_cli.specs.Check.{IsOutput, source_texts}
+use Rattle.logika_cli.specs.Rows.{HasOutput, Rows, OutputRefused}
+use Rattle.text_reading.specs.Limits.{IsWithin}
 use Rattle.text_reading.specs.declared.limits.Limits.{Limits}
 use Rattle.text_reading.proofs.LimitLaws.{past_or_within, one_line}
 
@@ -22,14 +24,21 @@ writes_nothing : {line : List ℕ} → ((refusal 8 line).line ≡ None) ⊎ ((re
 writes_nothing (inl e) = cc
 writes_nothing (inr more) = more refl
 
+-- The output of a told input, with the safety of what it calls verified.
+output_of : {limits : Limits} {source : SourceRun} {input text : List ℕ} {code : ℕ} → Tells source.before.left input → IsWithin limits input
+    → IsOutput input text code → HasOutput limits source text code
+output_of {input = input} told within output =
+    record { input = input; told = told; within = within; output = output; safe = verified_methods_are_safe (source_texts input) }
+
 module _ (limits : Limits) (source : SourceRun) (out journal : SinkRun) (code : ℕ) where
-  rows-due : {input : List ℕ} {due : Due} → Tells source.before.left input → IsDueOfCheck limits input due → HasNoFault source → Appends out due.text → (due.line ≡ None → HasHandedOn out.now) → IsQuiet out
+  rows-due : {input : List ℕ} {due : Due} → Tells source.before.left input → IsDueOfCheck limits input due → HasNoFault source → Appends out due.text
+      → (due.line ≡ None → HasHandedOn out.now) → IsQuiet out
       → code ≡ due.code → GetsLine journal due.line → Rows limits source out journal code
   rows-due {input} told (checked {text} {code = c} within output small) read given handed quiet code_is line = record {
     only = inl (omega arith);
     answered = λ at. record {
       text = text;
-      output = record { input = input; told = told; within = within; output = rw (sym code_is) at output; safe = verified_methods_are_safe (source_texts input) };
+      output = output_of told within (rw (sym code_is) at output);
       written = record { given = record { adds = given; quiet = quiet }; handed = handed refl };
       silent = line;
     };
@@ -57,14 +66,15 @@ module _ (limits : Limits) (source : SourceRun) (out journal : SinkRun) (code : 
         inl (code_is, rw same line);
   }
 
-  rows-write : {input : List ℕ} {due : Due} → Tells source.before.left input → IsDueOfCheck limits input due → (due.line ≡ None) ⊎ (due.text ≢ []) → HasNoFault source
+  rows-write : {input : List ℕ} {due : Due} → Tells source.before.left input → IsDueOfCheck limits input due → (due.line ≡ None) ⊎ (due.text ≢ [])
+      → HasNoFault source
       → GivesPart out due.text → IsFault out → code ≡ 6 → GetsLine journal (Some write_fault_line) → Rows limits source out journal code
   rows-write {input} told (checked {text} {code = c} within output small) writes read given fault code_is line = record {
     only = inr (omega arith, omega arith);
     answered = λ at. absurd (omega arith);
     read_fault = λ at. absurd (omega arith);
     write_fault = λ at. record {
-      given = record { text = text; code = c; output = record { input = input; told = told; within = within; output = output; safe = verified_methods_are_safe (source_texts input) }; given = given };
+      given = record { text = text; code = c; output = output_of told within output; given = given };
       fault = fault.faults;
       line = line;
     };
@@ -77,15 +87,17 @@ module _ (limits : Limits) (source : SourceRun) (out journal : SinkRun) (code : 
   }
   rows-write {input} told (too_large {line = line_no} passes) writes read given fault code_is line = absurd (writes_nothing writes)
 
-  refused : {input : List ℕ} {due : Due} → Tells source.before.left input → IsDueOfCheck limits input due → (due.line ≡ None) ⊎ (due.text ≢ []) → GivesPart out due.text → IsRefusal out
+  refused : {input : List ℕ} {due : Due} → Tells source.before.left input → IsDueOfCheck limits input due → (due.line ≡ None) ⊎ (due.text ≢ [])
+      → GivesPart out due.text → IsRefusal out
       → OutputRefused limits source out
   refused {input} told (checked {text} {code = c} within output small) writes given refusal = record {
-    given = record { text = text; code = c; output = record { input = input; told = told; within = within; output = output; safe = verified_methods_are_safe (source_texts input) }; given = given };
+    given = record { text = text; code = c; output = output_of told within output; given = given };
     refusal = refusal;
   }
   refused told (too_large passes) writes given refusal = absurd (writes_nothing writes)
 
-  out_of_memory : FindsNoMemory (check_command limits) source out ⊎ RefusesText (check_command limits) source out → GivesWhole out [] ⊎ OutputRefused limits source out
+  out_of_memory : FindsNoMemory (check_command limits) source out ⊎ RefusesText (check_command limits) source out
+      → GivesWhole out [] ⊎ OutputRefused limits source out
   out_of_memory (inl own) = inl (record { adds = rw own.earlier at own.given; quiet = own.quiet })
   out_of_memory (inr due) = inr (refused due.is_due.told due.is_due.is_due due.writes due.given due.refusal)
 

@@ -12,7 +12,8 @@ use Rattle.logika_cli.specs.Words.{IsCheck, command_of, refused, check}
 use Rattle.text_reading.specs.declared.limits.Limits.{Limits}
 
 -- Of one word that is the first.
-pub map-one : {X : Type 0} (f : X → List ℕ) (words : List X) (word : X) → 1 ≤ length words → length words < 2 → word ≡ get_or words 0 word → map f words ≡ f word ∷ []
+pub map-one : {X : Type 0} (f : X → List ℕ) (words : List X) (word : X) → 1 ≤ length words → length words < 2 → word ≡ get_or words 0 word
+    → map f words ≡ f word ∷ []
 map-one f [] word some few is = absurd (omega arith)
 map-one f (x ∷ []) word some few is = ap (λ w. f w ∷ []) (sym is)
 map-one f (x ∷ y ∷ more) word some few is = absurd (omega arith)
@@ -20,7 +21,8 @@ map-one f (x ∷ y ∷ more) word some few is = absurd (omega arith)
 module _ (limits : Limits) (words : List (List ℕ)) where
   pub HasStatus-check : {source : SourceRun} {out journal : SinkRun} {code : ℕ} → IsCheck words
       → HasStatus (check_command limits) source out journal code → HasStatus (command_of limits words) source out journal code
-  HasStatus-check {source} {out} {journal} {code} is_check status = record { end = status.end; ends = ends status.end status.ends; code_is = status.code_is; line = status.line }
+  HasStatus-check {source} {out} {journal} {code} is_check status =
+      record { end = status.end; ends = ends status.end status.ends; code_is = status.code_is; line = status.line }
     where
       due : (d : Due) → IsDueOf (check_command limits) source d → IsDueOf (command_of limits words) source d
       due d of_check = record { input = of_check.input; told = of_check.told; is_due = check is_check of_check.is_due }
@@ -37,13 +39,15 @@ module _ (limits : Limits) (words : List (List ℕ)) where
         ];
       }
 
-  pub HasStatus-refused : {source : SourceState} {out : SinkState} {journal : SinkRun} {code : ℕ} → ¬ IsCheck words → code ≡ 3 → GetsLine journal (Some words_line)
+  pub HasStatus-refused : {source : SourceState} {out : SinkState} {journal : SinkRun} {code : ℕ} → ¬ IsCheck words → code ≡ 3
+      → GetsLine journal (Some words_line)
       → HasStatus (command_of limits words) (run source source) (run out out) journal code
   HasStatus-refused {source} {out} {journal} {code} other code_is line =
       let input = Tells-front (Consumes-none source) in
       record {
         end = as_due (refusal 3 words_line);
-        ends = record { is_due = record { input = input.0; told = input.1; is_due = refused other }; read = refl; given = Appends-none out; handed = λ answers. cc; quiet = IsQuiet-none out };
+        ends =
+            record { is_due = record { input = input.0; told = input.1; is_due = refused other }; read = refl; given = Appends-none out; handed = λ answers. cc; quiet = IsQuiet-none out };
         code_is = code_is;
         line = line;
       }

@@ -20,7 +20,8 @@ WritesPart-piece text pieces i d {a} {b} {c} {end} inside so_far cut =
     let with_piece : flat_map text (take i pieces) ++ text (get_or pieces i d) ≡ flat_map text (take (i + 1) pieces) =
     flat_map_more text [] (take i pieces) (get_or pieces i d) ∙ ap (flat_map text) (sym (take_more pieces i d inside)) in
     let all : (flat_map text (take i pieces) ++ text (get_or pieces i d)) ++ rest ≡ flat_map text pieces =
-    ap (λ t. t ++ rest) with_piece ∙ sym (flat_map-append text (take (i + 1) pieces) (drop (i + 1) pieces)) ∙ ap (flat_map text) (take-append-drop (i + 1) pieces) in
+    ap (λ t. t ++ rest) with_piece ∙ sym (flat_map-append text (take (i + 1) pieces) (drop (i + 1) pieces))
+    ∙ ap (flat_map text) (take-append-drop (i + 1) pieces) in
     record {
       given = rw all at (GivesPart-front rest (GivesPart-then so_far.adds (GivesPart-cut cut)));
       cause = IsCounted-then c (end_alone end) so_far.quiet cut.cause;

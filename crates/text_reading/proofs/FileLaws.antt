@@ -1,5 +1,6 @@
 -- One file that is read, and several one after the other.
-use Rattle.std.proofs.Common.{◌≡◌, ℕ, ◌+◌, ◌≤◌, List, [], ◌∷◌, ◌++◌, length, take, drop, map, Bool, true, false, Option, Some, None, Result, Ok, Err, IfSome, refl, sym, ap, ◌∙◌, subst, arith, append_assoc}
+use Rattle.std.proofs.Common.{◌≡◌, ℕ, ◌+◌, ◌≤◌, List, [], ◌∷◌, ◌++◌, length, take, drop, map, Bool, true, false, Option, Some, None, Result, Ok, Err, IfSome}
+use Rattle.std.proofs.Common.{refl, sym, ap, ◌∙◌, subst, arith, append_assoc}
 use Rattle.std.proofs.lemmas.List.{take_all, length-take, take-append-drop}
 use Rattle.lk_io.specs.Run.{run, Rose}
 use Rattle.lk_io.specs.Folder.{Files, FolderState, FolderRun, HasFound, Reads, file_of}
@@ -9,7 +10,8 @@ use Rattle.project_reports.specs.Projects as project
 use Rattle.project_reading.specs.Texts.{text_seen}
 use Rattle.project_reading.specs.declared.texts.NamedText.{NamedText}
 use Rattle.text_reading.specs.Limits.{IsWithin, PassesIn}
-use Rattle.text_reading.specs.Files.{HasFile, LacksFile, ReadsOn, FailsRead, ReadsText, ReadsPastLimit, MissesFile, ReadsFile, IsTextWithin, AreTexts, HasTexts, StopsAt, ReadsAll}
+use Rattle.text_reading.specs.Files.{HasFile, LacksFile, ReadsOn, FailsRead, ReadsText, ReadsPastLimit, MissesFile, ReadsFile, IsTextWithin, AreTexts}
+use Rattle.text_reading.specs.Files.{HasTexts, StopsAt, ReadsAll}
 use Rattle.text_reading.specs.declared.limits.Limits.{Limits}
 use Rattle.text_reading.specs.declared.folder_texts.FileEnd.{FileEnd}
 use Rattle.text_reading.specs.declared.folder_texts.FileEnd.TheVariants.{Failed, Missing, TooLarge, NoMemory}
@@ -38,14 +40,16 @@ LacksFile-missing name buffer (Some files) limit is = lacks buffer (file_of file
 LacksFile-missing name buffer None limit is = tt
 
 -- A front of the file that is past a limit tells that the file is.
-past_found : {limits : Limits} {buffer : List ℕ} {line : ℕ} (found : Option (List ℕ)) (limit : ℕ) → HasFound found limit buffer File → PassesIn limits buffer line
+past_found : {limits : Limits} {buffer : List ℕ} {line : ℕ} (found : Option (List ℕ)) (limit : ℕ) → HasFound found limit buffer File
+    → PassesIn limits buffer line
     → (bytes : List ℕ) × (found ≡ Some bytes) × PassesIn limits bytes line
 past_found {limits} {buffer} {line} (Some bytes) limit is past =
     let more : buffer ++ drop (limit + 1) bytes ≡ bytes = ap (λ front. front ++ drop (limit + 1) bytes) is ∙ take-append-drop (limit + 1) bytes in
     (bytes, refl, subst (λ whole. PassesIn limits whole line) more (PassesIn-append limits buffer (drop (limit + 1) bytes) line past))
 past_found None limit is past = absurd is
 
-past_told : (limits : Limits) (name buffer : List ℕ) (line : ℕ) (told : Option Files) (limit : ℕ) → IfSome told (λ files. HasFound (file_of files name) limit buffer File)
+past_told : (limits : Limits) (name buffer : List ℕ) (line : ℕ) (told : Option Files) (limit : ℕ)
+    → IfSome told (λ files. HasFound (file_of files name) limit buffer File)
     → PassesIn limits buffer line → (bytes : List ℕ) × HasFile told name bytes × PassesIn limits bytes line
 past_told limits name buffer line (Some files) limit is past = past_found (file_of files name) limit is past
 past_told limits name buffer line None limit is past = (buffer, tt, past)
@@ -85,14 +89,16 @@ ReadsOn-refused reads = record { files = reads.files; faults = reads.cause; miss
 
 -- One text more.
 AreTexts-push : {limits : Limits} {told : Option Files} {names : List (List ℕ)} {read : List project.NamedText} (text : project.NamedText)
-    → AreTexts limits told names read → HasFile told text.name text.bytes → IsWithin limits text.bytes → AreTexts limits told (names ++ text.name ∷ []) (read ++ text ∷ [])
+    → AreTexts limits told names read → HasFile told text.name text.bytes → IsWithin limits text.bytes
+    → AreTexts limits told (names ++ text.name ∷ []) (read ++ text ∷ [])
 AreTexts-push text AreTexts.none found within = AreTexts.more found within AreTexts.none
 AreTexts-push text (AreTexts.more f w rest) found within = AreTexts.more f w (AreTexts-push text rest found within)
 
 pub HasTexts-none : (limits : Limits) (state : FolderState) (names : List (List ℕ)) → HasTexts limits (run state state) names [] names
 HasTexts-none limits state names = record { front = []; whole = refl; texts_are = AreTexts.none; files = refl; faults = refl; missed = λ before. before }
 
-pub HasTexts-more : {limits : Limits} {a b c : FolderState} {names left : List (List ℕ)} {name : List ℕ} {read : List project.NamedText} {text : project.NamedText}
+pub HasTexts-more : {limits : Limits} {a b c : FolderState} {names left : List (List ℕ)} {name : List ℕ} {read : List project.NamedText}
+    {text : project.NamedText}
     → HasTexts limits (run a b) names read (name ∷ left) → ReadsText limits (run b c) name text → HasTexts limits (run a c) names (read ++ text ∷ []) left
 HasTexts-more {limits} {a} {b} {c} {names} {left} {name} {read} {text} so_far next =
     let found : HasFile a.files text.name text.bytes = subst (λ files. HasFile files text.name text.bytes) so_far.files
@@ -115,7 +121,8 @@ ReadsOn-then so_far next = record { files = next.files ∙ so_far.files; faults 
 
 -- The next was not read.
 pub ReadsAll-stopped : (T : Type 0) (limits : Limits) (a b c : FolderState) (names left : List (List ℕ)) (name : List ℕ) (read : List NamedText) (end : FileEnd)
-    → HasTexts limits (run a b) names (map text_seen read) (name ∷ left) → ReadsFile limits (run b c) name (Err end) → ReadsAll {T = T} limits (run a c) names read (Err end)
+    → HasTexts limits (run a b) names (map text_seen read) (name ∷ left) → ReadsFile limits (run b c) name (Err end)
+    → ReadsAll {T = T} limits (run a c) names read (Err end)
 ReadsAll-stopped T limits a b c names left name read Failed so_far next = record {
   files = next.files ∙ so_far.files;
   fault = subst (λ n. Rose n c.faults) so_far.faults next.fault;

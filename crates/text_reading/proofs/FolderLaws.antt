@@ -1,5 +1,6 @@
 -- The files of a folder that tells none: those that were read.
-use Rattle.std.proofs.Common.{◌≡◌, ℕ, suc, List, [], ◌∷◌, ◌++◌, length, map, Bool, true, false, Option, Some, None, Ok, Err, IfSome, cond, refl, sym, ap, ◌∙◌, subst, append-nil}
+use Rattle.std.proofs.Common.{◌≡◌, ℕ, suc, List, [], ◌∷◌, ◌++◌, length, map, Bool, true, false, Option, Some, None, Ok, Err, IfSome, cond, refl, sym, ap, ◌∙◌}
+use Rattle.std.proofs.Common.{subst, append-nil}
 use Rattle.std.specs.Prelude.{slice_get}
 use Rattle.std.specs.Str.{bytes_eq}
 use Rattle.std.specs.List.{AllByRecursion, IsDistinct}
@@ -49,7 +50,8 @@ module _ {limits : Limits} where
       (with_another name bytes after (map as_file read ++ more) distinct.0 (AreTexts-own after more distinct.1 rest))
 
   -- What stands among them of another name is what stands behind them.
-  behind_own : {names : List (List ℕ)} {read : List NamedText} (name : List ℕ) (after : List (List ℕ)) (more : Files) → IsDistinct bytes_eq (names ++ name ∷ after)
+  behind_own : {names : List (List ℕ)} {read : List NamedText} (name : List ℕ) (after : List (List ℕ)) (more : Files)
+      → IsDistinct bytes_eq (names ++ name ∷ after)
       → AreTexts limits None names read → file_of (map as_file read ++ more) name ≡ file_of more name
   unfolding IsDistinct
   behind_own name after more distinct AreTexts.none = refl
@@ -60,13 +62,15 @@ module _ {limits : Limits} where
       among [] all = all.0
       among (n ∷ names) all = among names all.1
 
-  AreTexts-chosen : (told : Option Files) {names : List (List ℕ)} {read : List NamedText} (after : List (List ℕ)) (more : Files) → IsDistinct bytes_eq (names ++ after)
+  AreTexts-chosen : (told : Option Files) {names : List (List ℕ)} {read : List NamedText} (after : List (List ℕ)) (more : Files)
+      → IsDistinct bytes_eq (names ++ after)
       → AreTexts limits told names read → AreTexts limits (Some (chosen told read more)) names read
   AreTexts-chosen (Some files) after more distinct is = is
   AreTexts-chosen None after more distinct is = AreTexts-own after more distinct is
 
   -- All were read.
-  ReadsAs-texts : {files : Files} {names : List (List ℕ)} {read : List NamedText} → AreTexts limits (Some files) names read → ReadsAs limits files names (Ok read)
+  ReadsAs-texts : {files : Files} {names : List (List ℕ)} {read : List NamedText} → AreTexts limits (Some files) names read
+      → ReadsAs limits files names (Ok read)
   ReadsAs-texts AreTexts.none = ReadsAs.none
   ReadsAs-texts (AreTexts.more found within rest) = ReadsAs.text found within (ReadsAs-texts rest)
 
@@ -77,7 +81,8 @@ module _ {limits : Limits} where
   ReadsAs-stopped (AreTexts.more found within rest) stop = ReadsAs.behind found within (ReadsAs-stopped rest stop)
 
   -- The name behind those of the texts that were read.
-  pub name_behind : {told : Option Files} {names : List (List ℕ)} {read : List NamedText} (name : List ℕ) (after : List (List ℕ)) → AreTexts limits told names read
+  pub name_behind : {told : Option Files} {names : List (List ℕ)} {read : List NamedText} (name : List ℕ) (after : List (List ℕ))
+      → AreTexts limits told names read
       → name_at (names ++ name ∷ after) (length read) ≡ name
   name_behind name after AreTexts.none = refl
   name_behind name after (AreTexts.more found within rest) = name_behind name after rest
@@ -103,6 +108,7 @@ module _ {limits : Limits} where
   ReadsAs-past told {names} {read} name bytes after distinct is found past =
       ReadsAs-stopped (AreTexts-chosen told (name ∷ after) ((name, bytes) ∷ []) distinct is) (ReadsAs.passes (some told is found) past)
     where
-      some : (told : Option Files) → AreTexts limits told names read → HasFile told name bytes → file_of (chosen told read ((name, bytes) ∷ [])) name ≡ Some bytes
+      some : (told : Option Files) → AreTexts limits told names read → HasFile told name bytes
+          → file_of (chosen told read ((name, bytes) ∷ [])) name ≡ Some bytes
       some (Some files) is found = found
       some None is found = behind_own name after ((name, bytes) ∷ []) distinct is ∙ found_here name bytes []

@@ -1,5 +1,6 @@
 -- A gauge and one more byte.
-use Rattle.std.proofs.Common.{◌≡◌, ◌≢◌, ◌==◌, ℕ, ◌+◌, ◌≤◌, ◌<◌, inl, inr, false, List, [], ◌∷◌, ◌++◌, length, count_by, refl, sym, ap, ◌∙◌, cond, zero-add, add-zero, ne_eqb, append_assoc, get_or, take, drop, arith}
+use Rattle.std.proofs.Common.{◌≡◌, ◌≢◌, ◌==◌, ℕ, ◌+◌, ◌≤◌, ◌<◌, inl, inr, false, List, [], ◌∷◌, ◌++◌, length, count_by, refl, sym, ap, ◌∙◌, cond, zero-add}
+use Rattle.std.proofs.Common.{add-zero, ne_eqb, append_assoc, get_or, take, drop, arith}
 use Rattle.std.proofs.lemmas.List.Sums.{sum_by-append}
 use Rattle.std.proofs.lemmas.List.{length_push, take_more, take-append-drop}
 use Rattle.text_reading.specs.Limits.{newline, IsWithin, PassesIn}
@@ -17,7 +18,8 @@ HasCounted-none g bytes newlines column = record {
 }
 
 newlines-push : (text : List ℕ) (b : ℕ) → count_by (λ x. x == newline) (text ++ b ∷ []) ≡ count_by (λ x. x == newline) text + cond (b == newline) 1 0
-newlines-push text b = sum_by-append (λ x. cond (x == newline) 1 0) text (b ∷ []) ∙ ap (λ n. count_by (λ x. x == newline) text + n) (zero-add (cond (b == newline) 1 0))
+newlines-push text b = sum_by-append (λ x. cond (x == newline) 1 0) text (b ∷ [])
+    ∙ ap (λ n. count_by (λ x. x == newline) text + n) (zero-add (cond (b == newline) 1 0))
 
 pub HasCounted-newline : {g now : Gauge} {text : List ℕ} (b : ℕ) → HasCounted g text → g.bytes < g.limits.bytes → b ≡ newline
     → now.limits ≡ g.limits → now.bytes ≡ g.bytes + 1 → now.newlines ≡ g.newlines + 1 → now.column ≡ 0
@@ -41,7 +43,8 @@ HasCounted-push {g} {now} {text} b counted room other line_room limits bytes new
       within = rw limits (IsWithin-push g.limits text g.column b counted.within counted.column (omega (arith, counted.bytes)) (inr line_room));
     }
 
-passes_at_last : {g : Gauge} {text : List ℕ} {line : ℕ} (b : ℕ) → HasCounted g text → line ≡ g.newlines + 1 → ¬ IsWithin g.limits (text ++ b ∷ []) → PassesIn g.limits (text ++ b ∷ []) line
+passes_at_last : {g : Gauge} {text : List ℕ} {line : ℕ} (b : ℕ) → HasCounted g text → line ≡ g.newlines + 1 → ¬ IsWithin g.limits (text ++ b ∷ [])
+    → PassesIn g.limits (text ++ b ∷ []) line
 passes_at_last {g} {text} {line} b counted line_is past = record {
   front = text;
   byte = b;
@@ -52,10 +55,12 @@ passes_at_last {g} {text} {line} b counted line_is past = record {
   line_is = line_is ∙ ap (λ n. n + 1) counted.newlines;
 }
 
-pub PassesIn-bytes : {g : Gauge} {text : List ℕ} {line : ℕ} (b : ℕ) → HasCounted g text → line ≡ g.newlines + 1 → g.limits.bytes ≤ g.bytes → PassesIn g.limits (text ++ b ∷ []) line
+pub PassesIn-bytes : {g : Gauge} {text : List ℕ} {line : ℕ} (b : ℕ) → HasCounted g text → line ≡ g.newlines + 1 → g.limits.bytes ≤ g.bytes
+    → PassesIn g.limits (text ++ b ∷ []) line
 PassesIn-bytes {g} {text} {line} b counted line_is full = passes_at_last b counted line_is (past_bytes g.limits text b (omega (arith, counted.bytes)))
 
-pub PassesIn-line : {g : Gauge} {text : List ℕ} {line : ℕ} (b : ℕ) → HasCounted g text → line ≡ g.newlines + 1 → g.limits.line ≤ g.column → b ≢ newline → PassesIn g.limits (text ++ b ∷ []) line
+pub PassesIn-line : {g : Gauge} {text : List ℕ} {line : ℕ} (b : ℕ) → HasCounted g text → line ≡ g.newlines + 1 → g.limits.line ≤ g.column → b ≢ newline
+    → PassesIn g.limits (text ++ b ∷ []) line
 PassesIn-line {g} {text} {line} b counted line_is full other = passes_at_last b counted line_is (past_line g.limits text g.column b counted.column full other)
 
 -- A piece, up to the byte at i and with it.
@@ -71,5 +76,6 @@ pub PassesIn-more : {limits : Limits} {line : ℕ} (text piece : List ℕ) (i : 
 PassesIn-more {limits} {line} text piece i inside past =
     let more = PassesIn-append limits ((text ++ take i piece) ++ get_or piece i 0 ∷ []) (drop (i + 1) piece) line past in
     let e : ((text ++ take i piece) ++ get_or piece i 0 ∷ []) ++ drop (i + 1) piece ≡ text ++ piece =
-    ap (λ p. p ++ drop (i + 1) piece) (front_push text piece i inside) ∙ append_assoc text (take (i + 1) piece) (drop (i + 1) piece) ∙ ap (λ p. text ++ p) (take-append-drop (i + 1) piece) in
+    ap (λ p. p ++ drop (i + 1) piece) (front_push text piece i inside) ∙ append_assoc text (take (i + 1) piece) (drop (i + 1) piece)
+    ∙ ap (λ p. text ++ p) (take-append-drop (i + 1) piece) in
     rw e at more

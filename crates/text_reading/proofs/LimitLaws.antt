@@ -1,5 +1,6 @@
 -- A text and one more byte, within the limits or past them.
-use Rattle.std.proofs.Common.{count_by, ◌≡◌, ◌≢◌, ◌==◌, ℕ, ◌+◌, ◌≤◌, ◌<◌, ◌⊎◌, inl, inr, List, [], ◌∷◌, ◌++◌, length, Contains, refl, sym, ap, ◌∙◌, subst, arith, append_assoc, append-nil, length-append}
+use Rattle.std.proofs.Common.{count_by, ◌≡◌, ◌≢◌, ◌==◌, ℕ, ◌+◌, ◌≤◌, ◌<◌, ◌⊎◌, inl, inr, List, [], ◌∷◌, ◌++◌, length, Contains, refl, sym, ap, ◌∙◌, subst}
+use Rattle.std.proofs.Common.{arith, append_assoc, append-nil, length-append}
 use Rattle.std.proofs.lemmas.List.{same_from_push, length_push}
 use Rattle.std.proofs.lemmas.List.Elements.{Contains-append_left, Contains-push, Contains-push_cases}
 use Rattle.text_reading.specs.declared.limits.Limits.{Limits}
@@ -86,7 +87,8 @@ IsWithin-push limits text column b w c room line = record {
   lines = λ before stretch after. lines before stretch (has_last after);
 }
   where
-    reaches_end : (before : List ℕ) {stretch : List ℕ} → HasLast stretch → text ++ b ∷ [] ≡ before ++ stretch → ¬ Contains stretch newline → length stretch ≤ limits.line
+    reaches_end : (before : List ℕ) {stretch : List ℕ} → HasLast stretch → text ++ b ∷ [] ≡ before ++ stretch → ¬ Contains stretch newline
+        → length stretch ≤ limits.line
     reaches_end before none e free = omega arith
     reaches_end before (last s y) e free =
         let ends = ends_in text before s b y e in
@@ -96,7 +98,8 @@ IsWithin-push limits text column b w c room line = record {
           | inr has_room ↦ omega (arith, length_push s y)
         ]
 
-    lines : (before stretch : List ℕ) {after : List ℕ} → HasLast after → text ++ b ∷ [] ≡ before ++ stretch ++ after → ¬ Contains stretch newline → length stretch ≤ limits.line
+    lines : (before stretch : List ℕ) {after : List ℕ} → HasLast after → text ++ b ∷ [] ≡ before ++ stretch ++ after → ¬ Contains stretch newline
+        → length stretch ≤ limits.line
     lines before stretch none e free = reaches_end before (has_last stretch) (e ∙ append-nil (before ++ stretch)) free
     lines before stretch (last a y) e free = w.lines before stretch a (ends_in text (before ++ stretch) a b y e).0 free
 
@@ -108,7 +111,8 @@ past_bytes limits text b full w = absurd (omega (arith, w.bytes, length_push tex
 pub past_line : (limits : Limits) (text : List ℕ) (column b : ℕ) → Column text column → limits.line ≤ column → b ≢ newline → ¬ IsWithin limits (text ++ b ∷ [])
 past_line limits text column b c full other w =
     let more = Column-push text column b c other in
-    let fits : length more.stretch ≤ limits.line = w.lines more.before more.stretch [] (more.whole ∙ sym (append-nil (more.before ++ more.stretch))) more.free in
+    let fits : length more.stretch ≤ limits.line =
+    w.lines more.before more.stretch [] (more.whole ∙ sym (append-nil (more.before ++ more.stretch))) more.free in
     absurd (omega (arith, more.size))
 
 -- What follows the first byte past a limit changes nothing.

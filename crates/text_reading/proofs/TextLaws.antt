@@ -1,5 +1,6 @@
 -- The texts of a command, of a folder or of a source.
-use Rattle.std.proofs.Common.{◌≡◌, ◌≢◌, ℕ, List, [], ◌∷◌, ◌++◌, length, map, true, false, Option, Some, None, Result, Ok, Err, IfSome, refl, sym, ap, ◌∙◌, subst, append-nil}
+use Rattle.std.proofs.Common.{◌≡◌, ◌≢◌, ℕ, List, [], ◌∷◌, ◌++◌, length, map, true, false, Option, Some, None, Result, Ok, Err, IfSome, refl, sym, ap, ◌∙◌}
+use Rattle.std.proofs.Common.{subst, append-nil}
 use Rattle.std.specs.Str.{bytes_eq}
 use Rattle.std.specs.List.{IsDistinct}
 use Rattle.std.proofs.lemmas.List.{length-map}
@@ -112,7 +113,8 @@ module _ (limits : Limits) (source : SourceRun) (folder : FolderState) where
       }
 
   pub TextsAreRead-source : (read : List NamedText) (bytes : List ℕ) → ReadsWhole limits source bytes
-      → map text_seen read ≡ record { name = source_name; bytes = bytes } ∷ [] → TextsAreRead limits [] (record { source = source; folder = run folder folder }) (Ok read)
+      → map text_seen read ≡ record { name = source_name; bytes = bytes } ∷ []
+      → TextsAreRead limits [] (record { source = source; folder = run folder folder }) (Ok read)
   TextsAreRead-source read bytes whole is = (
     subst (λ texts. AreRead limits [] (record { source = source; folder = run folder folder }) (Ok texts)) (sym is)
         (of_source_read bytes whole.told (ReadsAs.text refl whole.within ReadsAs.none) whole.no_fault),

@@ -21,7 +21,8 @@ files-preserved g c =
     let names = map string_bytes c.args.names.now in
     let left = map string_bytes c.in-Some.rest.now in
     let name = string_bytes c.in-Some.name.now in
-    let before = subst (λ rest. HasTexts c.args.limits (run a b) names (map text_seen c.files.texts) rest) (ap (map string_bytes) c.in-Some.ensures.cases.0) c.files.invariant in
+    let before =
+    subst (λ rest. HasTexts c.args.limits (run a b) names (map text_seen c.files.texts) rest) (ap (map string_bytes) c.in-Some.ensures.cases.0) c.files.invariant in
     let here = subst (λ n. ReadsText c.args.limits (run b d) n (text_seen c.in_ok-text.text)) c.as_str.ensures.value c.in_ok-text.ensures in
     let pushed = ap (map text_seen) c.in_ok-push.ensures.ok ∙ map-append text_seen c.files.texts (c.in_ok-text.text ∷ []) in
     subst (λ texts. HasTexts c.args.limits (run a d) names texts left) (sym pushed) (HasTexts-more before here)

@@ -7,7 +7,8 @@ use Rattle.text_reading.proofs.folder_texts.read_files.Given as goal
 
 abbrev pub invariant-files : goal.invariant-files
 invariant-files g l =
-    HasTexts l.fn.limits (run (g.F.Folder.state l.initial.folder) (g.F.Folder.state l.folder)) (map string_bytes l.fn.names) (map text_seen l.texts) (map string_bytes l.left)
+    HasTexts l.fn.limits (run (g.F.Folder.state l.initial.folder) (g.F.Folder.state l.folder)) (map string_bytes l.fn.names)
+    (map text_seen l.texts) (map string_bytes l.left)
 
 abbrev pub decreases-files : goal.decreases-files
 decreases-files g l = length l.left
