@@ -1,0 +1,5 @@
+pub mod Fits
+pub mod Typed
+pub mod Kept
+pub mod Rounds
+pub mod Sorted

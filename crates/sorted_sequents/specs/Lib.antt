@@ -1,0 +1,4 @@
+pub mod Fitting
+pub mod Answers
+pub mod Records
+pub mod Claims
