@@ -4,10 +4,12 @@
     oracle/printing.py [COUNT] [SEED] [FIRST]       2000 texts of seed 1 from number 0, where nothing is said
 
 What is printed of a text must read back to its tree, but for the places, and be printed as itself; a text with a fault is told by its
-place and code. `rt run` in `crates/print_text` builds the program.
+place and code. Every fourth text nests nearly as deep as a text may, and would nest deeper without the brackets that it does not need.
+`rt run` in `crates/print_text` builds the program.
 """
 import dataclasses
 import pathlib
+import random
 import subprocess
 import sys
 
@@ -59,11 +61,51 @@ def wrong(data: bytes) -> str | None:
     return None
 
 
+def deep(make: random.Random, room: int, size: int) -> str:
+    """An expression of about so many parts that adds at most `room` to the weights of a text."""
+    kind = make.randrange(6) if size > 1 and room > 4 else 6
+    if kind == 0:
+        used, parts = 0, []
+        for _ in range(make.randint(2, 5)):
+            if room - used < 3:
+                break
+            parts.append(f"({deep(make, room - used - 1, size // 3)})")
+            used += 2
+        return make.choice([" + ", " * ", " & ", " -->: "]).join(parts)
+    if kind == 1:
+        arguments = [deep(make, room - 2, size // 3) for _ in range(make.randint(0, 2))]
+        return f"({deep(make, room - 1, size // 2)})({', '.join(arguments)})"
+    if kind == 2:
+        return f"a(({deep(make, room - 2, size // 2)}) ~> {deep(make, room - 2, size // 2)})"
+    if kind == 3:
+        low, high, body = (deep(make, room - 2, size // 3) for _ in range(3))
+        return f"All(({low}) until {high})(k => {body})"
+    if kind == 4:
+        return f"({deep(make, room - 5, size // 2)}){'.f' * make.randint(1, 4)}"
+    if kind == 5:
+        return f"-(({deep(make, room - 3, size // 2)}))"
+    count = make.choice([room, room, room // 2, make.randint(0, max(room, 0))])
+    return make.choice([" * ", " + ", " ->: "]).join(["x"] * (count + 1)) if make.random() < 0.8 else "x" + ".f" * count
+
+
+def text_of(seed: int, index: int) -> tuple[str, str]:
+    """The kind and the text of one text."""
+    if index % 4 < 3:
+        return project_of(seed, index)
+    make = random.Random(f"deep {seed} {index}")
+    forms = ["def f(): Z = {{ return {} }}", "def f(): Unit = {{ if ({}) {{ x = {} }} else {{ if (T) {{ g({}) }} }} }}",
+             "def f(): Unit = {{ Contract(Requires({}), Ensures({})); assert({}) }}",
+             "def f(): Unit = {{ while ({}) {{ Invariant(Modifies(x), {}); val y: Z = {} }} }}",
+             "def f(): Unit = {{ Deduce(1 SubProof(2 Assume({}), 3 ({}) by Auto)) }}"]
+    parts = [deep(make, 190 + make.randint(0, 8), make.choice([1, 4, 12, 30])) for _ in range(3)]
+    return "deep", make.choice(forms).format(*parts)
+
+
 def main() -> int:
     count, seed, first = (int(word) for word in (sys.argv[1:] + ["2000", "1", "0"][len(sys.argv) - 1:]))
     differences = 0
     for index in range(first, first + count):
-        kind, text = project_of(seed, index)
+        kind, text = text_of(seed, index)
         found = wrong(text.encode())
         if found is not None:
             differences += 1

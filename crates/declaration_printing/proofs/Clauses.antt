@@ -35,19 +35,20 @@ nil_of xs = nil_is xs (eqb (length xs) 0) refl
 
 -- ---- each clause
 
-pub no_requires_added : {a : List ℕ} (claims : List Expr) → true ≡ eqb (length claims) 0 →
-    Adds a a (clauses_joined true (requires_clauses (map expr_tree claims)))
-unfolding is_nil
-no_requires_added [] h = adds_none
-no_requires_added (claim ∷ claims) h = absurd (true≢false (nil_is (claim ∷ claims) true h))
+module _ (light : Bool) where
+  pub no_requires_added : {a : List ℕ} (claims : List Expr) → true ≡ eqb (length claims) 0 →
+      Adds a a (clauses_joined true (requires_clauses light (map expr_tree claims)))
+  unfolding is_nil
+  no_requires_added [] h = adds_none
+  no_requires_added (claim ∷ claims) h = absurd (true≢false (nil_is (claim ∷ claims) true h))
 
-pub requires_added : {a b c : List ℕ} (claims : List Expr) → false ≡ eqb (length claims) 0 → b ≡ a ++ gap_bytes (line 2) ++ codes "Requires" →
-    Adds b c (arguments_pieces claims) → Adds a c (clauses_joined true (requires_clauses (map expr_tree claims)))
-unfolding signs words is_nil
-requires_added [] h word added = absurd (true≢false (sym (nil_is {X = Expr} [] false h)))
-requires_added (claim ∷ claims) h word added =
-    adds_same _ _ (sym (append-nil (mark (line 2) kind.Requires nowhere ∷ arguments_pieces (claim ∷ claims))))
-    (adds_then (adds_word (line 2) kind.Requires nowhere (codes "Requires") refl word) added)
+  pub requires_added : {a b c : List ℕ} (claims : List Expr) → false ≡ eqb (length claims) 0 → b ≡ a ++ gap_bytes (line 2) ++ codes "Requires" →
+      Adds b c (arguments_pieces light claims) → Adds a c (clauses_joined true (requires_clauses light (map expr_tree claims)))
+  unfolding signs words is_nil
+  requires_added [] h word added = absurd (true≢false (sym (nil_is {X = Expr} [] false h)))
+  requires_added (claim ∷ claims) h word added =
+      adds_same _ _ (sym (append-nil (mark (line 2) kind.Requires nowhere ∷ arguments_pieces light (claim ∷ claims))))
+      (adds_then (adds_word (line 2) kind.Requires nowhere (codes "Requires") refl word) added)
 
 pub no_modifies_added : {a : List ℕ} (first : Bool) (names : List Name) → true ≡ eqb (length names) 0 → Adds a a (clauses_joined first (modifies_clauses names))
 unfolding is_nil
@@ -63,20 +64,21 @@ modifies_added first (name ∷ names) h comma word added =
     adds_same _ _ (sym (append-nil (comma_unless first ++ (mark (line 2) kind.Modifies nowhere ∷ names_pieces none (names_account (name ∷ names))))))
     (adds_then comma (adds_then (adds_word (line 2) kind.Modifies nowhere (codes "Modifies") refl word) added))
 
-pub no_ensures_added : {a : List ℕ} (first : Bool) (claims : List Expr) → true ≡ eqb (length claims) 0 →
-    Adds a a (clauses_joined first (ensures_clauses (map expr_tree claims)))
-unfolding is_nil
-no_ensures_added first [] h = adds_none
-no_ensures_added first (claim ∷ claims) h = absurd (true≢false (nil_is (claim ∷ claims) true h))
+module _ (light : Bool) where
+  pub no_ensures_added : {a : List ℕ} (first : Bool) (claims : List Expr) → true ≡ eqb (length claims) 0 →
+      Adds a a (clauses_joined first (ensures_clauses light (map expr_tree claims)))
+  unfolding is_nil
+  no_ensures_added first [] h = adds_none
+  no_ensures_added first (claim ∷ claims) h = absurd (true≢false (nil_is (claim ∷ claims) true h))
 
-pub ensures_added : {a b c d : List ℕ} (first : Bool) (claims : List Expr) → false ≡ eqb (length claims) 0 → Adds a b (comma_unless first) →
-    c ≡ b ++ gap_bytes (line 2) ++ codes "Ensures" → Adds c d (arguments_pieces claims) →
-    Adds a d (clauses_joined first (ensures_clauses (map expr_tree claims)))
-unfolding signs words is_nil
-ensures_added first [] h comma word added = absurd (true≢false (sym (nil_is {X = Expr} [] false h)))
-ensures_added first (claim ∷ claims) h comma word added =
-    adds_same _ _ (sym (append-nil (comma_unless first ++ (mark (line 2) kind.Ensures nowhere ∷ arguments_pieces (claim ∷ claims)))))
-    (adds_then comma (adds_then (adds_word (line 2) kind.Ensures nowhere (codes "Ensures") refl word) added))
+  pub ensures_added : {a b c d : List ℕ} (first : Bool) (claims : List Expr) → false ≡ eqb (length claims) 0 → Adds a b (comma_unless first) →
+      c ≡ b ++ gap_bytes (line 2) ++ codes "Ensures" → Adds c d (arguments_pieces light claims) →
+      Adds a d (clauses_joined first (ensures_clauses light (map expr_tree claims)))
+  unfolding signs words is_nil
+  ensures_added first [] h comma word added = absurd (true≢false (sym (nil_is {X = Expr} [] false h)))
+  ensures_added first (claim ∷ claims) h comma word added =
+      adds_same _ _ (sym (append-nil (comma_unless first ++ (mark (line 2) kind.Ensures nowhere ∷ arguments_pieces light (claim ∷ claims)))))
+      (adds_then comma (adds_then (adds_word (line 2) kind.Ensures nowhere (codes "Ensures") refl word) added))
 
 -- ---- all clauses
 
@@ -91,40 +93,41 @@ joined-append false (x ∷ xs) ys =
     ap (λ l. (comma_unless false ++ clause_pieces (line 2) x) ++ l) (joined-append false xs ys)
     ∙ sym (append_assoc (comma_unless false ++ clause_pieces (line 2) x) (clauses_joined false xs) (clauses_joined false ys))
 
-nil_requires : (claims : List Expr) → is_nil (requires_clauses (map expr_tree claims)) ≡ is_nil claims
-unfolding is_nil
-nil_requires [] = refl
-nil_requires (claim ∷ claims) = refl
+module _ (light : Bool) where
+  nil_requires : (claims : List Expr) → is_nil (requires_clauses light (map expr_tree claims)) ≡ is_nil claims
+  unfolding is_nil
+  nil_requires [] = refl
+  nil_requires (claim ∷ claims) = refl
 
-nil_first_two : (claims : List Expr) (names : List Name) →
-    is_nil (requires_clauses (map expr_tree claims) ++ modifies_clauses names) ≡ (is_nil claims && is_nil names)
-unfolding is_nil
-nil_first_two [] [] = refl
-nil_first_two [] (name ∷ names) = refl
-nil_first_two (claim ∷ claims) names = refl
+  nil_first_two : (claims : List Expr) (names : List Name) →
+      is_nil (requires_clauses light (map expr_tree claims) ++ modifies_clauses names) ≡ (is_nil claims && is_nil names)
+  unfolding is_nil
+  nil_first_two [] [] = refl
+  nil_first_two [] (name ∷ names) = refl
+  nil_first_two (claim ∷ claims) names = refl
 
-nil_written : (claims : List Expr) (names : List Name) (ensured : List Expr) →
-    is_nil (clauses_written claims names ensured) ≡ ((is_nil claims && is_nil names) && is_nil ensured)
-unfolding is_nil
-nil_written [] [] [] = refl
-nil_written [] [] (e ∷ es) = refl
-nil_written [] (name ∷ names) ensured = refl
-nil_written (claim ∷ claims) names ensured = refl
+  nil_written : (claims : List Expr) (names : List Name) (ensured : List Expr) →
+      is_nil (clauses_written light claims names ensured) ≡ ((is_nil claims && is_nil names) && is_nil ensured)
+  unfolding is_nil
+  nil_written [] [] [] = refl
+  nil_written [] [] (e ∷ es) = refl
+  nil_written [] (name ∷ names) ensured = refl
+  nil_written (claim ∷ claims) names ensured = refl
 
-pub clauses_added : {a b c d : List ℕ} (claims : List Expr) (names : List Name) (ensured : List Expr) (first neither : Bool) → first ≡ eqb (length claims) 0 →
-    neither ≡ (eqb (length claims) 0 && eqb (length names) 0) → Adds a b (clauses_joined true (requires_clauses (map expr_tree claims))) →
-    Adds b c (clauses_joined first (modifies_clauses names)) → Adds c d (clauses_joined neither (ensures_clauses (map expr_tree ensured))) →
-    Adds a d (clauses_joined true (clauses_written claims names ensured))
-clauses_added {a} {b} {c} {d} claims names ensured first neither first_is neither_is h k m =
-    let required = requires_clauses (map expr_tree claims) in
-    let modified = modifies_clauses names in
-    let k2 : Adds b c (clauses_joined (is_nil required) modified)
-    = subst (λ f. Adds b c (clauses_joined f modified)) (first_is ∙ nil_of claims ∙ sym (nil_requires claims)) k in
-    let m2 : Adds c d (clauses_joined (is_nil (required ++ modified)) (ensures_clauses (map expr_tree ensured)))
-    = subst (λ f. Adds c d (clauses_joined f (ensures_clauses (map expr_tree ensured))))
-    (neither_is ∙ ap₂ (λ x y. x && y) (nil_of claims) (nil_of names) ∙ sym (nil_first_two claims names)) m in
-    adds_same _ _ (sym (joined-append true (required ++ modified) (ensures_clauses (map expr_tree ensured))))
-    (adds_then (adds_same _ _ (sym (joined-append true required modified)) (adds_then h k2)) m2)
+  pub clauses_added : {a b c d : List ℕ} (claims : List Expr) (names : List Name) (ensured : List Expr) (first neither : Bool) → first ≡ eqb (length claims) 0 →
+      neither ≡ (eqb (length claims) 0 && eqb (length names) 0) → Adds a b (clauses_joined true (requires_clauses light (map expr_tree claims))) →
+      Adds b c (clauses_joined first (modifies_clauses names)) → Adds c d (clauses_joined neither (ensures_clauses light (map expr_tree ensured))) →
+      Adds a d (clauses_joined true (clauses_written light claims names ensured))
+  clauses_added {a} {b} {c} {d} claims names ensured first neither first_is neither_is h k m =
+      let required = requires_clauses light (map expr_tree claims) in
+      let modified = modifies_clauses names in
+      let k2 : Adds b c (clauses_joined (is_nil required) modified)
+      = subst (λ f. Adds b c (clauses_joined f modified)) (first_is ∙ nil_of claims ∙ sym (nil_requires claims)) k in
+      let m2 : Adds c d (clauses_joined (is_nil (required ++ modified)) (ensures_clauses light (map expr_tree ensured)))
+      = subst (λ f. Adds c d (clauses_joined f (ensures_clauses light (map expr_tree ensured))))
+      (neither_is ∙ ap₂ (λ x y. x && y) (nil_of claims) (nil_of names) ∙ sym (nil_first_two claims names)) m in
+      adds_same _ _ (sym (joined-append true (required ++ modified) (ensures_clauses light (map expr_tree ensured))))
+      (adds_then (adds_same _ _ (sym (joined-append true required modified)) (adds_then h k2)) m2)
 
 clauses_from : (before : Option ClauseText) (clause : ClauseText) (clauses : List ClauseText) →
     listed_pieces kind.Comma (λ b it. clause_pieces (line 2) it) before (listed_of (clause ∷ clauses)).front (listed_of (clause ∷ clauses)).last
@@ -148,33 +151,35 @@ contract_of (clause ∷ clauses) h word left added right =
     (codes "(") refl left) added))
     (adds_word (line 1) kind.RightParen nowhere (codes ")") refl right))
 
-pub contract_added : {a b c d e : List ℕ} (claims : List Expr) (names : List Name) (ensured : List Expr) →
-    false ≡ ((eqb (length claims) 0 && eqb (length names) 0) && eqb (length ensured) 0) → b ≡ a ++ gap_bytes (line 1) ++ codes "Contract" → c ≡ b ++ codes "(" →
-    Adds c d (clauses_joined true (clauses_written claims names ensured)) → e ≡ d ++ gap_bytes (line 1) ++ codes ")" →
-    Adds a e (part_lines (contract_parts (clauses_written claims names ensured)))
-contract_added claims names ensured h word left added right =
-    contract_of (clauses_written claims names ensured)
-    (nil_written claims names ensured ∙ ap₂ (λ x y. x && y) (ap₂ (λ x y. x && y) (sym (nil_of claims)) (sym (nil_of names))) (sym (nil_of ensured)) ∙ sym h)
-    word left added right
+module _ (light : Bool) where
+  pub contract_added : {a b c d e : List ℕ} (claims : List Expr) (names : List Name) (ensured : List Expr) →
+      false ≡ ((eqb (length claims) 0 && eqb (length names) 0) && eqb (length ensured) 0) → b ≡ a ++ gap_bytes (line 1) ++ codes "Contract" → c ≡ b ++ codes "(" →
+      Adds c d (clauses_joined true (clauses_written light claims names ensured)) → e ≡ d ++ gap_bytes (line 1) ++ codes ")" →
+      Adds a e (part_lines (contract_parts (clauses_written light claims names ensured)))
+  contract_added claims names ensured h word left added right =
+      contract_of (clauses_written light claims names ensured)
+      (nil_written light claims names ensured ∙ ap₂ (λ x y. x && y) (ap₂ (λ x y. x && y) (sym (nil_of claims)) (sym (nil_of names))) (sym (nil_of ensured)) ∙ sym h)
+      word left added right
 
 no_contract : {a : List ℕ} (clauses : List ClauseText) → is_nil clauses ≡ true → Adds a a (part_lines (contract_parts clauses))
 unfolding is_nil
 no_contract [] h = adds_none
 no_contract (clause ∷ clauses) h = absurd (true≢false (sym h))
 
-pub no_contract_added : {a : List ℕ} (claims : List Expr) (names : List Name) (ensured : List Expr) →
-    true ≡ ((eqb (length claims) 0 && eqb (length names) 0) && eqb (length ensured) 0) →
-    Adds a a (part_lines (contract_parts (clauses_written claims names ensured)))
-no_contract_added claims names ensured h =
-    no_contract (clauses_written claims names ensured)
-    (nil_written claims names ensured ∙ ap₂ (λ x y. x && y) (ap₂ (λ x y. x && y) (sym (nil_of claims)) (sym (nil_of names))) (sym (nil_of ensured)) ∙ sym h)
+module _ (light : Bool) where
+  pub no_contract_added : {a : List ℕ} (claims : List Expr) (names : List Name) (ensured : List Expr) →
+      true ≡ ((eqb (length claims) 0 && eqb (length names) 0) && eqb (length ensured) 0) →
+      Adds a a (part_lines (contract_parts (clauses_written light claims names ensured)))
+  no_contract_added claims names ensured h =
+      no_contract (clauses_written light claims names ensured)
+      (nil_written light claims names ensured ∙ ap₂ (λ x y. x && y) (ap₂ (λ x y. x && y) (sym (nil_of claims)) (sym (nil_of names))) (sym (nil_of ensured)) ∙ sym h)
 
--- the clauses of a method
-pub contract_shown : {a b : List ℕ} (decl : MethodDecl) (claims : List Expr) (names : List Name) (ensured : List Expr) → claims ≡ decl.requires_ →
-    names ≡ decl.modifies →
-    ensured ≡ decl.ensures_ → Adds a b (part_lines (contract_parts (clauses_written claims names ensured))) →
-    Adds a b (part_lines (contract_parts (clauses_of (method_decl_tree decl))))
-contract_shown {a} {b} decl claims names ensured claims_is names_is ensured_is h =
-    subst (λ l. Adds a b (part_lines (contract_parts (clauses_written decl.requires_ decl.modifies l)))) ensured_is
-    (subst (λ l. Adds a b (part_lines (contract_parts (clauses_written decl.requires_ l ensured)))) names_is
-    (subst (λ l. Adds a b (part_lines (contract_parts (clauses_written l names ensured)))) claims_is h))
+  -- the clauses of a method
+  pub contract_shown : {a b : List ℕ} (decl : MethodDecl) (claims : List Expr) (names : List Name) (ensured : List Expr) → claims ≡ decl.requires_ →
+      names ≡ decl.modifies →
+      ensured ≡ decl.ensures_ → Adds a b (part_lines (contract_parts (clauses_written light claims names ensured))) →
+      Adds a b (part_lines (contract_parts (clauses_of light (method_decl_tree decl))))
+  contract_shown {a} {b} decl claims names ensured claims_is names_is ensured_is h =
+      subst (λ l. Adds a b (part_lines (contract_parts (clauses_written light decl.requires_ decl.modifies l)))) ensured_is
+      (subst (λ l. Adds a b (part_lines (contract_parts (clauses_written light decl.requires_ l ensured)))) names_is
+      (subst (λ l. Adds a b (part_lines (contract_parts (clauses_written light l names ensured)))) claims_is h))

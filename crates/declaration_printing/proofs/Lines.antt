@@ -1,5 +1,5 @@
 -- The parts of a body on lines of their own, by their bytes.
-use Rattle.std.proofs.Common.{◌≡◌, ℕ, suc, ◌+◌, ◌<◌, Option, Some, None, List, [], ◌∷◌, ◌++◌, map, take, length, get_or, append_assoc, append-nil, refl, sym, ap, ◌∙◌}
+use Rattle.std.proofs.Common.{Bool, ◌≡◌, ℕ, suc, ◌+◌, ◌<◌, Option, Some, None, List, [], ◌∷◌, ◌++◌, map, take, length, get_or, append_assoc, append-nil, refl, sym, ap, ◌∙◌}
 use Rattle.std.proofs.lemmas.List.{take_more}
 use Rattle.slang_lexer.specs.declared.token.TokenKind.TheVariants as kind
 use Rattle.slang_lexer.specs.Spelling.{signs, words}
@@ -53,21 +53,22 @@ lines-append [] ys = refl
 lines-append (x ∷ xs) ys =
     ap (λ l. part_pieces (line 1) x ++ l) (lines-append xs ys) ∙ sym (append_assoc (part_pieces (line 1) x) (part_lines xs) (part_lines ys))
 
-body_more : (xs : List Stmt) (stmt : Stmt) →
-    part_lines (stmt_parts (map stmt_tree (xs ++ stmt ∷ []))) ≡ part_lines (stmt_parts (map stmt_tree xs)) ++ stmt_pieces 1 (line 1) (stmt_account
-    (stmt_tree stmt))
-body_more [] stmt = append-nil (stmt_pieces 1 (line 1) (stmt_account (stmt_tree stmt)))
-body_more (x ∷ xs) stmt =
-    let own = stmt_pieces 1 (line 1) (stmt_account (stmt_tree x)) in
-    ap (λ l. own ++ l) (body_more xs stmt)
-    ∙ sym (append_assoc own (part_lines (stmt_parts (map stmt_tree xs))) (stmt_pieces 1 (line 1) (stmt_account (stmt_tree stmt))))
+module _ (light : Bool) where
+  body_more : (xs : List Stmt) (stmt : Stmt) →
+      part_lines (stmt_parts light (map stmt_tree (xs ++ stmt ∷ []))) ≡ part_lines (stmt_parts light (map stmt_tree xs)) ++ stmt_pieces 1 (line 1) (stmt_account light
+      (stmt_tree stmt))
+  body_more [] stmt = append-nil (stmt_pieces 1 (line 1) (stmt_account light (stmt_tree stmt)))
+  body_more (x ∷ xs) stmt =
+      let own = stmt_pieces 1 (line 1) (stmt_account light (stmt_tree x)) in
+      ap (λ l. own ++ l) (body_more xs stmt)
+      ∙ sym (append_assoc own (part_lines (stmt_parts light (map stmt_tree xs))) (stmt_pieces 1 (line 1) (stmt_account light (stmt_tree stmt))))
 
--- one statement more
-pub one_part : {a b c : List ℕ} (stmts : List Stmt) (at : ℕ) (stmt : Stmt) → at < length stmts → stmt ≡ get_or stmts at stmt →
-    Adds a b (part_lines (stmt_parts (map stmt_tree (take at stmts)))) → Adds b c (stmt_pieces 1 (line 1) (stmt_account (stmt_tree stmt))) →
-    Adds a c (part_lines (stmt_parts (map stmt_tree (take (at + 1) stmts))))
-one_part stmts at stmt within is before added =
-    adds_same _ _
-    (sym (body_more (take at stmts) stmt)
-    ∙ ap (λ l. part_lines (stmt_parts (map stmt_tree l))) (ap (λ y. take at stmts ++ y ∷ []) is ∙ sym (take_more stmts at stmt within)))
-    (adds_then before added)
+  -- one statement more
+  pub one_part : {a b c : List ℕ} (stmts : List Stmt) (at : ℕ) (stmt : Stmt) → at < length stmts → stmt ≡ get_or stmts at stmt →
+      Adds a b (part_lines (stmt_parts light (map stmt_tree (take at stmts)))) → Adds b c (stmt_pieces 1 (line 1) (stmt_account light (stmt_tree stmt))) →
+      Adds a c (part_lines (stmt_parts light (map stmt_tree (take (at + 1) stmts))))
+  one_part stmts at stmt within is before added =
+      adds_same _ _
+      (sym (body_more (take at stmts) stmt)
+      ∙ ap (λ l. part_lines (stmt_parts light (map stmt_tree l))) (ap (λ y. take at stmts ++ y ∷ []) is ∙ sym (take_more stmts at stmt within)))
+      (adds_then before added)

@@ -35,10 +35,11 @@ abbrev pub clauses_joined : Bool → List ClauseText → List Piece
 clauses_joined first [] = []
 clauses_joined first (clause ∷ clauses) = (comma_unless first ++ clause_pieces (line 2) clause) ++ clauses_joined false clauses
 
--- the clauses of what is required, modified and ensured
-abbrev pub clauses_written : List Expr → List Name → List Expr → List ClauseText
-clauses_written requires_ modifies ensures_ = requires_clauses (map expr_tree requires_) ++ modifies_clauses modifies ++ ensures_clauses
-    (map expr_tree ensures_)
+module _ (light : Bool) where
+  -- the clauses of what is required, modified and ensured
+  abbrev pub clauses_written : List Expr → List Name → List Expr → List ClauseText
+  clauses_written requires_ modifies ensures_ = requires_clauses light (map expr_tree requires_) ++ modifies_clauses modifies ++ ensures_clauses light
+      (map expr_tree ensures_)
 
 -- each at the beginning of a line: a newline that is a token and one that is none are one byte
 abbrev pub part_lines : List PartText → List Piece

@@ -19,14 +19,14 @@ fn add_comma(first: bool, text: &mut Vec<u8>) -> Result<(), NoMemory>
 }
 
 /// Adds the clause of what is required, where there is something.
-fn add_requires(claims: &[Expr], text: &mut Vec<u8>) -> Result<(), NoMemory>
-    ensures { OnOk result (Adds text.old.items text.new.items (clauses_joined true (requires_clauses (map expr_tree claims.now)))) }
+fn add_requires(claims: &[Expr], light: bool, text: &mut Vec<u8>) -> Result<(), NoMemory>
+    ensures { OnOk result (Adds text.old.items text.new.items (clauses_joined true (requires_clauses light (map expr_tree claims.now)))) }
 {
     if claims.is_empty() {
         Ok(())
     } else {
         add_word(Gap::Line(2), "Requires", text)?;
-        add_arguments(claims, text)
+        add_arguments(claims, light, text)
     }
 }
 
@@ -44,15 +44,20 @@ fn add_modifies(names: &[Name], first: bool, text: &mut Vec<u8>) -> Result<(), N
 }
 
 /// Adds the clause of what is ensured, where there is something, behind a comma where it is not the first.
-fn add_ensures(claims: &[Expr], first: bool, text: &mut Vec<u8>) -> Result<(), NoMemory>
-    ensures { OnOk result (Adds text.old.items text.new.items (clauses_joined first (ensures_clauses (map expr_tree claims.now)))) }
+fn add_ensures(
+    claims: &[Expr],
+    first: bool,
+    light: bool,
+    text: &mut Vec<u8>,
+) -> Result<(), NoMemory>
+    ensures { OnOk result (Adds text.old.items text.new.items (clauses_joined first (ensures_clauses light (map expr_tree claims.now)))) }
 {
     if claims.is_empty() {
         Ok(())
     } else {
         add_comma(first, text)?;
         add_word(Gap::Line(2), "Ensures", text)?;
-        add_arguments(claims, text)
+        add_arguments(claims, light, text)
     }
 }
 
@@ -68,13 +73,14 @@ fn add_clauses(
     requires_: &[Expr],
     modifies: &[Name],
     ensures_: &[Expr],
+    light: bool,
     text: &mut Vec<u8>,
 ) -> Result<(), NoMemory>
-    ensures { OnOk result (Adds text.old.items text.new.items (clauses_joined true (clauses_written requires_.now modifies.now ensures_.now))) }
+    ensures { OnOk result (Adds text.old.items text.new.items (clauses_joined true (clauses_written light requires_.now modifies.now ensures_.now))) }
 {
-    add_requires(requires_, text)?;
+    add_requires(requires_, light, text)?;
     add_modifies(modifies, requires_.is_empty(), text)?;
-    add_ensures(ensures_, are_empty(requires_, modifies), text)
+    add_ensures(ensures_, are_empty(requires_, modifies), light, text)
 }
 
 /// Whether a contract says nothing.
@@ -89,28 +95,34 @@ fn add_written(
     requires_: &[Expr],
     modifies: &[Name],
     ensures_: &[Expr],
+    light: bool,
     text: &mut Vec<u8>,
 ) -> Result<(), NoMemory>
-    ensures { OnOk result (Adds text.old.items text.new.items (part_lines (contract_parts (clauses_written requires_.now modifies.now ensures_.now)))) }
+    ensures { OnOk result (Adds text.old.items text.new.items (part_lines (contract_parts (clauses_written light requires_.now modifies.now ensures_.now)))) }
 {
     if says_nothing(requires_, modifies, ensures_) {
         Ok(())
     } else {
         add_word(Gap::Line(1), "Contract", text)?;
         add_text("(", text)?;
-        add_clauses(requires_, modifies, ensures_, text)?;
+        add_clauses(requires_, modifies, ensures_, light, text)?;
         add_word(Gap::Line(1), ")", text)
     }
 }
 
 /// Adds the contract of a method.
-pub(crate) fn add_contract(decl: &MethodDecl, text: &mut Vec<u8>) -> Result<(), NoMemory>
-    ensures { OnOk result (Adds text.old.items text.new.items (part_lines (contract_parts (clauses_of (method_decl_tree decl.now))))) }
+pub(crate) fn add_contract(
+    decl: &MethodDecl,
+    light: bool,
+    text: &mut Vec<u8>,
+) -> Result<(), NoMemory>
+    ensures { OnOk result (Adds text.old.items text.new.items (part_lines (contract_parts (clauses_of light (method_decl_tree decl.now))))) }
 {
     add_written(
         decl.requires_.as_slice(),
         decl.modifies.as_slice(),
         decl.ensures_.as_slice(),
+        light,
         text,
     )
 }

@@ -1,4 +1,4 @@
-ghost use Rattle.std.specs.Prelude.{OnOk, map};
+ghost use Rattle.std.specs.Prelude.{false, OnOk, map};
 ghost use Rattle.slang_tree.specs.DeclTree.{field_tree, record_decl, record_decl_tree, global_decl, global_decl_tree, decl_tree};
 ghost use Rattle.print_declarations.specs.Accounts.{import_account, decl_account};
 ghost use Rattle.print_layout.specs.Declarations.{decl_pieces};
@@ -41,7 +41,7 @@ fn add_import(path: &[Name], gap: Gap, text: &mut Vec<u8>) -> Result<(), NoMemor
 
 /// Adds a global behind a gap.
 fn add_global(decl: &GlobalDecl, gap: Gap, text: &mut Vec<u8>) -> Result<(), NoMemory>
-    ensures { OnOk result (Adds text.old.items text.new.items (decl_pieces (gap_seen gap) (decl_account (global_decl (global_decl_tree decl.now))))) }
+    ensures { OnOk result (Adds text.old.items text.new.items (decl_pieces (gap_seen gap) (decl_account false (global_decl (global_decl_tree decl.now))))) }
 {
     add_declared(decl.fixed, &decl.name, &decl.ty, gap, text)?;
     add_const(&decl.init, Gap::Blank, text)
@@ -73,7 +73,7 @@ fn add_fields(fields: &[FieldDecl], text: &mut Vec<u8>) -> Result<(), NoMemory>
 
 /// Adds a record behind a gap.
 fn add_record(decl: &RecordDecl, gap: Gap, text: &mut Vec<u8>) -> Result<(), NoMemory>
-    ensures { OnOk result (Adds text.old.items text.new.items (decl_pieces (gap_seen gap) (decl_account (record_decl (record_decl_tree decl.now))))) }
+    ensures { OnOk result (Adds text.old.items text.new.items (decl_pieces (gap_seen gap) (decl_account false (record_decl (record_decl_tree decl.now))))) }
 {
     add_word(gap, "@", text)?;
     add_text("datatype", text)?;
@@ -85,13 +85,13 @@ fn add_record(decl: &RecordDecl, gap: Gap, text: &mut Vec<u8>) -> Result<(), NoM
 }
 
 /// Adds a declaration behind a gap.
-pub fn add_decl(decl: &Decl, gap: Gap, text: &mut Vec<u8>) -> Result<(), NoMemory>
-    ensures { OnOk result (Adds text.old.items text.new.items (decl_pieces (gap_seen gap) (decl_account (decl_tree decl.now)))) }
+pub fn add_decl(decl: &Decl, gap: Gap, light: bool, text: &mut Vec<u8>) -> Result<(), NoMemory>
+    ensures { OnOk result (Adds text.old.items text.new.items (decl_pieces (gap_seen gap) (decl_account light (decl_tree decl.now)))) }
 {
     match decl {
         Decl::Import { path, .. } => add_import(path.as_slice(), gap, text),
         Decl::Global(decl) => add_global(decl, gap, text),
         Decl::Record(decl) => add_record(decl, gap, text),
-        Decl::Method(decl) => add_method(decl, gap, text),
+        Decl::Method(decl) => add_method(decl, gap, light, text),
     }
 }

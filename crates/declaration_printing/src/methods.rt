@@ -55,31 +55,36 @@ fn add_params(params: &[Param], text: &mut Vec<u8>) -> Result<(), NoMemory>
 }
 
 /// Adds the statements of a method, each on lines of its own.
-fn add_body(stmts: &[Stmt], text: &mut Vec<u8>) -> Result<(), NoMemory>
-    ensures { OnOk result (Adds text.old.items text.new.items (part_lines (stmt_parts (map stmt_tree stmts.now)))) }
+fn add_body(stmts: &[Stmt], light: bool, text: &mut Vec<u8>) -> Result<(), NoMemory>
+    ensures { OnOk result (Adds text.old.items text.new.items (part_lines (stmt_parts light (map stmt_tree stmts.now)))) }
 {
     for stmt in stmts {
-        add_stmt(stmt, 1, Gap::Line(1), text)?;
+        add_stmt(stmt, 1, Gap::Line(1), light, text)?;
     }
     Ok(())
 }
 
 /// Adds what a method returns on a line of its own, where it returns something.
-fn add_return(returned: &Option<Return>, text: &mut Vec<u8>) -> Result<(), NoMemory>
-    ensures { OnOk result (Adds text.old.items text.new.items (part_lines (return_parts (option_map return_tree returned.now)))) }
+fn add_return(returned: &Option<Return>, light: bool, text: &mut Vec<u8>) -> Result<(), NoMemory>
+    ensures { OnOk result (Adds text.old.items text.new.items (part_lines (return_parts light (option_map return_tree returned.now)))) }
 {
     match returned {
         None => Ok(()),
         Some(returned) => {
             add_word(Gap::Line(1), "return", text)?;
-            add_expr(&returned.value, Gap::Blank, text)
+            add_expr(&returned.value, Gap::Blank, light, text)
         }
     }
 }
 
 /// Adds a method behind a gap.
-pub(crate) fn add_method(decl: &MethodDecl, gap: Gap, text: &mut Vec<u8>) -> Result<(), NoMemory>
-    ensures { OnOk result (Adds text.old.items text.new.items (method_pieces (gap_seen gap) (method_account (method_decl_tree decl.now)))) }
+pub(crate) fn add_method(
+    decl: &MethodDecl,
+    gap: Gap,
+    light: bool,
+    text: &mut Vec<u8>,
+) -> Result<(), NoMemory>
+    ensures { OnOk result (Adds text.old.items text.new.items (method_pieces (gap_seen gap) (method_account light (method_decl_tree decl.now)))) }
 {
     add_word(gap, "def", text)?;
     add_name(Gap::Blank, &decl.name, text)?;
@@ -90,8 +95,8 @@ pub(crate) fn add_method(decl: &MethodDecl, gap: Gap, text: &mut Vec<u8>) -> Res
     add_type(&decl.result, Gap::Blank, text)?;
     add_word(Gap::Blank, "=", text)?;
     add_word(Gap::Blank, "{", text)?;
-    add_contract(decl, text)?;
-    add_body(decl.body.as_slice(), text)?;
-    add_return(&decl.returned, text)?;
+    add_contract(decl, light, text)?;
+    add_body(decl.body.as_slice(), light, text)?;
+    add_return(&decl.returned, light, text)?;
     add_word(Gap::Line(0), "}", text)
 }

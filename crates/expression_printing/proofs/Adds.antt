@@ -1,5 +1,5 @@
 -- Bytes that were added one after the other.
-use Rattle.std.proofs.Common.{◌≡◌, ℕ, List, [], ◌∷◌, ◌++◌, append_assoc, append-nil, refl, sym, ap, ◌∙◌, subst}
+use Rattle.std.proofs.Common.{◌≡◌, ℕ, Bool, List, [], ◌∷◌, ◌++◌, append_assoc, append-nil, refl, sym, ap, ◌∙◌, subst}
 use Rattle.slang_lexer.specs.declared.token.TokenKind.{TokenKind}
 use Rattle.slang_tree.specs.declared.place.Place.{Place}
 use Rattle.slang_tree.specs.declared.expression.Name.{Name}
@@ -44,5 +44,6 @@ pub adds_name : {a b : List ℕ} (gap : Gap) (written : Name) → b ≡ a ++ gap
 adds_name gap written h = adds_token gap (name_token (bare_name written)) written.text refl h
 
 -- what is printed of a tree
-pub adds_tree : {a b : List ℕ} (gap : Gap) (own tree : ExprTree) → own ≡ tree → Adds a b (expr_pieces gap (expr_account tree)) → Adds a b (expr_pieces gap (expr_account own))
-adds_tree {a} {b} gap own tree same h = subst (λ t. Adds a b (expr_pieces gap (expr_account t))) (sym same) h
+pub adds_tree : {a b : List ℕ} (light : Bool) (gap : Gap) (own tree : ExprTree) → own ≡ tree → Adds a b (expr_pieces gap (expr_account light tree))
+    → Adds a b (expr_pieces gap (expr_account light own))
+adds_tree {a} {b} light gap own tree same h = subst (λ t. Adds a b (expr_pieces gap (expr_account light t))) (sym same) h

@@ -1,20 +1,22 @@
 ghost use Rattle.std.specs.Prelude.{OnOk, nat_abs, [], ◌∷◌};
 ghost use Rattle.std.specs.Option.{option_map};
-ghost use Rattle.slang_grammar.specs.declared.operator.Side.TheVariants.{Left, Right};
 ghost use Rattle.slang_grammar.specs.Expressions as account;
 ghost use Rattle.slang_tree.specs.TypeTree.{type_tree};
 ghost use Rattle.print_expressions.specs.Bare.{nowhere, bare_name};
 ghost use Rattle.print_expressions.specs.Operators.{row_of};
+ghost use Rattle.print_expressions.specs.Hefts as hefts;
 ghost use Rattle.print_expressions.specs.Accounts as accounts;
 ghost use Rattle.print_layout.specs.Pieces as pieces;
 ghost use Rattle.print_layout.specs.Expressions.{expr_pieces, exprs_pieces};
 ghost use Rattle.token_printing.specs.Gaps.{gap_seen};
-ghost use Rattle.expression_standing.specs.Account.{account_of};
-ghost use Rattle.expression_printing.specs.Printed.{Adds, placed_pieces, accounts_of, behind_pieces, arguments_pieces, element_pieces, named_pieces, bound_of, body_pieces};
+ghost use Rattle.expression_standing.specs.Account.{account_of, accounts_of};
+ghost use Rattle.expression_printing.specs.Printed.{Adds, placed_pieces, behind_pieces, arguments_pieces, element_pieces, named_pieces, bound_of, body_pieces};
 
 use crate::NoMemory;
-use expression_standing::{stands_as_head, stands_as_operand, stands_behind_prefix};
-use slang_grammar::Side;
+use expression_standing::{
+    left_stands, right_stands, stands_as_head, stands_before_arguments, stands_before_dot,
+    stands_before_element, stands_behind_prefix, stands_first,
+};
 use slang_tree::{Expr, Name, Operator, TypeName};
 use slang_values::Quantifier;
 use token_printing::{
@@ -63,11 +65,11 @@ fn add_quantifier(quantifier: Quantifier, gap: Gap, text: &mut Vec<u8>) -> Resul
     }
 }
 
-/// Adds an expression behind a gap, with brackets only where they are needed.
+/// Adds an expression behind a gap, with brackets only where they are needed, or lightly.
 #[cycle(printing)]
 #[tactic(auto, using(slang_tree::proofs::Lines::expr_lines, crate::proofs::Sizes::smaller_lines))]
-pub fn add_expr(expr: &Expr, gap: Gap, text: &mut Vec<u8>) -> Result<(), NoMemory>
-    ensures { OnOk result (Adds text.old.items text.new.items (expr_pieces (gap_seen gap) (account_of expr.now))) }
+pub fn add_expr(expr: &Expr, gap: Gap, light: bool, text: &mut Vec<u8>) -> Result<(), NoMemory>
+    ensures { OnOk result (Adds text.old.items text.new.items (expr_pieces (gap_seen gap) (account_of light expr.now))) }
 {
     match expr {
         Expr::Number(_, z) => add_number(*z, gap, text),
@@ -88,23 +90,25 @@ pub fn add_expr(expr: &Expr, gap: Gap, text: &mut Vec<u8>) -> Result<(), NoMemor
         }
         Expr::Minus(_, operand) => {
             add_word(gap, "-", text)?;
-            add_tight(operand.get(), text)
+            add_tight(operand.get(), light, text)
         }
         Expr::Not(_, operand) => {
             add_word(gap, "!", text)?;
-            add_tight(operand.get(), text)
+            add_tight(operand.get(), light, text)
         }
         Expr::Binary(_, operator, left, right) => {
-            add_binary(left.get(), right.get(), *operator, gap, text)
+            add_binary(left.get(), right.get(), *operator, gap, light, text)
         }
         Expr::Apply(_, head, arguments) => {
-            add_application(head.get(), arguments.as_slice(), gap, text)
+            add_application(head.get(), arguments.as_slice(), gap, light, text)
         }
         Expr::Update(_, head, index, element) => {
-            add_update(head.get(), index.get(), element.get(), gap, text)
+            add_update(head.get(), index.get(), element.get(), gap, light, text)
         }
-        Expr::Field(_, head, name) => add_field(head.get(), name, gap, text),
-        Expr::Sequence(_, ty, elements) => add_sequence(elements.as_slice(), ty, gap, text),
+        Expr::Field(_, head, name) => add_field(head.get(), name, gap, light, text),
+        Expr::Sequence(_, ty, elements) => {
+            add_sequence(elements.as_slice(), ty, gap, light, text)
+        }
         Expr::Quantified(_, quantifier, low, high, name, body) => {
             add_quantified(
                 low.get(),
@@ -113,58 +117,42 @@ pub fn add_expr(expr: &Expr, gap: Gap, text: &mut Vec<u8>) -> Result<(), NoMemor
                 *quantifier,
                 name,
                 gap,
+                light,
                 text,
             )
         }
         Expr::QuantifiedIndices(_, quantifier, head, name, body) => {
-            add_indices(head.get(), body.get(), *quantifier, name, gap, text)
+            add_indices(head.get(), body.get(), *quantifier, name, gap, light, text)
         }
     }
 }
 
 /// Adds an expression behind a gap, in brackets where it does not stand without them.
 #[cycle(printing)]
-fn add_placed(expr: &Expr, stands: bool, gap: Gap, text: &mut Vec<u8>) -> Result<(), NoMemory>
-    ensures { OnOk result (Adds text.old.items text.new.items (placed_pieces (gap_seen gap) stands expr.now)) }
+fn add_placed(
+    expr: &Expr,
+    stands: bool,
+    gap: Gap,
+    light: bool,
+    text: &mut Vec<u8>,
+) -> Result<(), NoMemory>
+    ensures { OnOk result (Adds text.old.items text.new.items (placed_pieces (gap_seen gap) stands light expr.now)) }
 {
     if stands {
-        add_expr(expr, gap, text)
+        add_expr(expr, gap, light, text)
     } else {
         add_word(gap, "(", text)?;
-        add_expr(expr, Gap::None, text)?;
+        add_expr(expr, Gap::None, light, text)?;
         add_text(")", text)
     }
 }
 
 /// Adds what stands behind a prefix.
 #[cycle(printing)]
-fn add_tight(expr: &Expr, text: &mut Vec<u8>) -> Result<(), NoMemory>
-    ensures { OnOk result (Adds text.old.items text.new.items (expr_pieces pieces.none (accounts.as_prefixed (account_of expr.now)))) }
+fn add_tight(expr: &Expr, light: bool, text: &mut Vec<u8>) -> Result<(), NoMemory>
+    ensures { OnOk result (Adds text.old.items text.new.items (expr_pieces pieces.none (accounts.as_prefixed (account_of light expr.now)))) }
 {
-    add_placed(expr, stands_behind_prefix(expr), Gap::None, text)
-}
-
-/// Adds what stands in front of arguments or of a dot.
-#[cycle(printing)]
-fn add_head(expr: &Expr, gap: Gap, text: &mut Vec<u8>) -> Result<(), NoMemory>
-    ensures { OnOk result (Adds text.old.items text.new.items (expr_pieces (gap_seen gap) (accounts.as_head (account_of expr.now)))) }
-{
-    add_placed(expr, stands_as_head(expr), gap, text)
-}
-
-/// Adds an operand on a side of an operator.
-#[cycle(printing)]
-fn add_operand(
-    expr: &Expr,
-    side: Side,
-    operator: Operator,
-    gap: Gap,
-    text: &mut Vec<u8>,
-) -> Result<(), NoMemory>
-    ensures { OnOk result (Adds text.old.items text.new.items
-        (expr_pieces (gap_seen gap) (accounts.as_operand side (row_of operator) (account_of expr.now)))) }
-{
-    add_placed(expr, stands_as_operand(expr, side, operator), gap, text)
+    add_placed(expr, stands_behind_prefix(expr), Gap::None, light, text)
 }
 
 /// Adds an operator between two operands.
@@ -174,15 +162,27 @@ fn add_binary(
     right: &Expr,
     operator: Operator,
     gap: Gap,
+    light: bool,
     text: &mut Vec<u8>,
 ) -> Result<(), NoMemory>
     ensures { OnOk result (Adds text.old.items text.new.items (expr_pieces (gap_seen gap)
-        (account.binary (accounts.as_operand Left (row_of operator) (account_of left.now)) (row_of operator) nowhere
-        (accounts.as_operand Right (row_of operator) (account_of right.now))))) }
+        (accounts.binary_account light (row_of operator) (account_of light left.now) (account_of light right.now)))) }
 {
-    add_operand(left, Side::Left, operator, gap, text)?;
+    add_placed(
+        left,
+        left_stands(left, right, operator, light),
+        gap,
+        light,
+        text,
+    )?;
     add_word(Gap::Blank, operator_sign(operator), text)?;
-    add_operand(right, Side::Right, operator, Gap::Blank, text)
+    add_placed(
+        right,
+        right_stands(left, right, operator, light),
+        Gap::Blank,
+        light,
+        text,
+    )
 }
 
 /// Adds a head with its arguments.
@@ -191,13 +191,20 @@ fn add_application(
     head: &Expr,
     arguments: &[Expr],
     gap: Gap,
+    light: bool,
     text: &mut Vec<u8>,
 ) -> Result<(), NoMemory>
     ensures { OnOk result (Adds text.old.items text.new.items (expr_pieces (gap_seen gap)
-        (account.application (accounts.as_head (account_of head.now)) nowhere (accounts_of arguments.now) nowhere))) }
+        (accounts.application_account light (account_of light head.now) (accounts_of light arguments.now)))) }
 {
-    add_head(head, gap, text)?;
-    add_arguments(arguments, text)
+    add_placed(
+        head,
+        stands_before_arguments(head, arguments, light),
+        gap,
+        light,
+        text,
+    )?;
+    add_arguments(arguments, light, text)
 }
 
 /// Adds a sequence with another element at an index.
@@ -207,26 +214,45 @@ fn add_update(
     index: &Expr,
     element: &Expr,
     gap: Gap,
+    light: bool,
     text: &mut Vec<u8>,
 ) -> Result<(), NoMemory>
     ensures { OnOk result (Adds text.old.items text.new.items (expr_pieces (gap_seen gap)
-        (account.update (accounts.as_head (account_of head.now)) nowhere (account_of index.now) nowhere (account_of element.now) nowhere))) }
+        (accounts.update_account light (account_of light head.now) (account_of light index.now) (account_of light element.now)))) }
 {
-    add_head(head, gap, text)?;
+    add_placed(
+        head,
+        stands_before_element(head, index, element, light),
+        gap,
+        light,
+        text,
+    )?;
     add_text("(", text)?;
-    add_expr(index, Gap::None, text)?;
+    add_placed(
+        index,
+        stands_first(index, element, light),
+        Gap::None,
+        light,
+        text,
+    )?;
     add_word(Gap::Blank, "~>", text)?;
-    add_expr(element, Gap::Blank, text)?;
+    add_expr(element, Gap::Blank, light, text)?;
     add_text(")", text)
 }
 
 /// Adds a field of a head.
 #[cycle(printing)]
-fn add_field(head: &Expr, name: &Name, gap: Gap, text: &mut Vec<u8>) -> Result<(), NoMemory>
+fn add_field(
+    head: &Expr,
+    name: &Name,
+    gap: Gap,
+    light: bool,
+    text: &mut Vec<u8>,
+) -> Result<(), NoMemory>
     ensures { OnOk result (Adds text.old.items text.new.items (expr_pieces (gap_seen gap)
-        (account.field (accounts.as_head (account_of head.now)) nowhere (bare_name name.now)))) }
+        (account.field (accounts.head_before light (account_of light head.now) hefts.one) nowhere (bare_name name.now)))) }
 {
-    add_head(head, gap, text)?;
+    add_placed(head, stands_before_dot(head, light), gap, light, text)?;
     add_text(".", text)?;
     add_name(Gap::None, name, text)
 }
@@ -237,14 +263,15 @@ fn add_sequence(
     elements: &[Expr],
     ty: &Option<TypeName>,
     gap: Gap,
+    light: bool,
     text: &mut Vec<u8>,
 ) -> Result<(), NoMemory>
     ensures { OnOk result (Adds text.old.items text.new.items (expr_pieces (gap_seen gap)
-        (account.sequence nowhere (option_map accounts.element_account (option_map type_tree ty.now)) nowhere (accounts_of elements.now) nowhere))) }
+        (account.sequence nowhere (option_map accounts.element_account (option_map type_tree ty.now)) nowhere (accounts_of light elements.now) nowhere))) }
 {
     add_word(gap, "ISZ", text)?;
     add_element(ty, text)?;
-    add_arguments(elements, text)
+    add_arguments(elements, light, text)
 }
 
 /// Adds a quantifier over a range.
@@ -256,19 +283,21 @@ fn add_quantified(
     quantifier: Quantifier,
     name: &Name,
     gap: Gap,
+    light: bool,
     text: &mut Vec<u8>,
 ) -> Result<(), NoMemory>
     ensures { OnOk result (Adds text.old.items text.new.items (expr_pieces (gap_seen gap)
-        (account.quantified (accounts.word_of quantifier) nowhere nowhere (account_of low.now) nowhere (account_of high.now) nowhere
-        (bound_of name.now) (account_of body.now)))) }
+        (account.quantified (accounts.word_of quantifier) nowhere nowhere
+        (accounts.first_before light (account_of light low.now) (account_of light high.now)) nowhere (account_of light high.now) nowhere
+        (bound_of name.now) (account_of light body.now)))) }
 {
     add_quantifier(quantifier, gap, text)?;
     add_text("(", text)?;
-    add_expr(low, Gap::None, text)?;
+    add_placed(low, stands_first(low, high, light), Gap::None, light, text)?;
     add_word(Gap::Blank, "until", text)?;
-    add_expr(high, Gap::Blank, text)?;
+    add_expr(high, Gap::Blank, light, text)?;
     add_text(")", text)?;
-    add_body(body, name, text)
+    add_body(body, name, light, text)
 }
 
 /// Adds a quantifier over the indices of a sequence.
@@ -279,53 +308,60 @@ fn add_indices(
     quantifier: Quantifier,
     name: &Name,
     gap: Gap,
+    light: bool,
     text: &mut Vec<u8>,
 ) -> Result<(), NoMemory>
     ensures { OnOk result (Adds text.old.items text.new.items (expr_pieces (gap_seen gap)
-        (account.quantified_indices (accounts.word_of quantifier) nowhere nowhere (accounts.as_head (account_of head.now)) nowhere nowhere nowhere
-        (bound_of name.now) (account_of body.now)))) }
+        (account.quantified_indices (accounts.word_of quantifier) nowhere nowhere (accounts.as_head (account_of light head.now)) nowhere nowhere nowhere
+        (bound_of name.now) (account_of light body.now)))) }
 {
     add_quantifier(quantifier, gap, text)?;
     add_text("(", text)?;
-    add_head(head, Gap::None, text)?;
+    add_placed(head, stands_as_head(head), Gap::None, light, text)?;
     add_text(".", text)?;
     add_text("indices", text)?;
     add_text(")", text)?;
-    add_body(body, name, text)
+    add_body(body, name, light, text)
 }
 
 /// Adds the variable of a quantifier and its body.
 #[cycle(printing)]
-fn add_body(body: &Expr, name: &Name, text: &mut Vec<u8>) -> Result<(), NoMemory>
-    ensures { OnOk result (Adds text.old.items text.new.items (body_pieces name.now body.now)) }
+fn add_body(body: &Expr, name: &Name, light: bool, text: &mut Vec<u8>) -> Result<(), NoMemory>
+    ensures { OnOk result (Adds text.old.items text.new.items (body_pieces light name.now body.now)) }
 {
     add_text("(", text)?;
     add_name(Gap::None, name, text)?;
     add_word(Gap::Blank, "=>", text)?;
-    add_expr(body, Gap::Blank, text)?;
+    add_expr(body, Gap::Blank, light, text)?;
     add_text(")", text)
 }
 
 /// Adds arguments in round brackets.
 #[cycle(printing)]
-pub fn add_arguments(exprs: &[Expr], text: &mut Vec<u8>) -> Result<(), NoMemory>
-    ensures { OnOk result (Adds text.old.items text.new.items (arguments_pieces exprs.now)) }
+pub fn add_arguments(exprs: &[Expr], light: bool, text: &mut Vec<u8>) -> Result<(), NoMemory>
+    ensures { OnOk result (Adds text.old.items text.new.items (arguments_pieces light exprs.now)) }
 {
     add_text("(", text)?;
-    add_exprs(exprs, Gap::None, Gap::Blank, text)?;
+    add_exprs(exprs, Gap::None, Gap::Blank, light, text)?;
     add_text(")", text)
 }
 
 /// Adds expressions parted by commas, with the gap before the first and that before each that follows.
 #[cycle(printing)]
-pub fn add_exprs(exprs: &[Expr], first: Gap, next: Gap, text: &mut Vec<u8>) -> Result<(), NoMemory>
-    ensures { OnOk result (Adds text.old.items text.new.items (exprs_pieces (gap_seen first) (gap_seen next) (accounts_of exprs.now))) }
+pub fn add_exprs(
+    exprs: &[Expr],
+    first: Gap,
+    next: Gap,
+    light: bool,
+    text: &mut Vec<u8>,
+) -> Result<(), NoMemory>
+    ensures { OnOk result (Adds text.old.items text.new.items (exprs_pieces (gap_seen first) (gap_seen next) (accounts_of light exprs.now))) }
 {
     match exprs.split_first() {
         None => Ok(()),
         Some((expr, others)) => {
-            add_expr(expr, first, text)?;
-            add_behind(others, next, text)
+            add_expr(expr, first, light, text)?;
+            add_behind(others, next, light, text)
         }
     }
 }
@@ -333,12 +369,12 @@ pub fn add_exprs(exprs: &[Expr], first: Gap, next: Gap, text: &mut Vec<u8>) -> R
 /// Adds expressions, each behind a comma.
 #[cycle(printing)]
 #[tactic(auto, using(crate::proofs::Sizes::size_lines))]
-fn add_behind(exprs: &[Expr], gap: Gap, text: &mut Vec<u8>) -> Result<(), NoMemory>
-    ensures { OnOk result (Adds text.old.items text.new.items (behind_pieces (gap_seen gap) exprs.now)) }
+fn add_behind(exprs: &[Expr], gap: Gap, light: bool, text: &mut Vec<u8>) -> Result<(), NoMemory>
+    ensures { OnOk result (Adds text.old.items text.new.items (behind_pieces (gap_seen gap) light exprs.now)) }
 {
     for expr in exprs {
         add_text(",", text)?;
-        add_expr(expr, gap, text)?;
+        add_expr(expr, gap, light, text)?;
     }
     Ok(())
 }

@@ -48,7 +48,11 @@ c = named (codes "c")
 
 -- an expression alone
 abbrev written : ExprTree → List ℕ
-written tree = bytes_of (expr_pieces none (expr_account tree))
+written tree = bytes_of (expr_pieces none (expr_account false tree))
+
+-- the same, printed lightly
+abbrev lightly : ExprTree → List ℕ
+lightly tree = bytes_of (expr_pieces none (expr_account true tree))
 
 -- ---- a method with a contract, and one with a loop
 
@@ -109,18 +113,26 @@ pub record PrintingExamples : Type 0 where
   pub prefixes : written (e.negation nowhere (e.negation nowhere a)) ≡ codes "!!a"
   pub in_front_of_a_dot : written (e.field nowhere (e.minus nowhere a) (word (codes "size"))) ≡ codes "(-a).size"
   pub arguments : written (e.application nowhere a (expr_then (of_two o.Add b c) no_exprs)) ≡ codes "a(b + c)"
+  -- lightly, brackets also stand where less counts with them
+  pub light_as_it_is : lightly (of_two o.Mul (of_two o.Mul a b) c) ≡ codes "a * b * c"
+  pub light_in_brackets : lightly
+      (of_two o.Add (of_two o.Mul (of_two o.Mul a b) c) (of_two o.Mul (of_two o.Mul a b) c)) ≡ codes "(a * b * c) + a * b * c"
+  pub light_head : lightly
+      (e.field nowhere (e.field nowhere (e.field nowhere a (word (codes "b"))) (word (codes "c"))) (word (codes "d"))) ≡ codes "(a.b.c).d"
+  pub light_index : lightly
+      (e.update nowhere a (of_two o.Mul (of_two o.Mul a b) c) (of_two o.Mul (of_two o.Mul a b) c)) ≡ codes "a((a * b * c) ~> a * b * c)"
   -- declarations
-  pub globals : file_bytes
+  pub globals : file_bytes false
       (global_decl (record { place = nowhere; fixed = true; written = word (codes "most"); ty = Some z; init = const_number nowhere (pos 10) })
       ∷ global_decl (record { place = nowhere; fixed = false; written = word (codes "fuel"); ty = None; init = const_minus nowhere nowhere (pos 1) })
       ∷ record_decl (record { place = nowhere; written = word (codes "Burn"); fields = typed (codes "length") z ∷ typed (codes "on") (b_name nowhere) ∷ [] }) ∷ [])
       ≡ codes "val most: Z = 10\nvar fuel = -1\n\n@datatype class Burn(length: Z, on: B)\n"
-  pub contract : file_bytes (clamp ∷ [])
+  pub contract : file_bytes false (clamp ∷ [])
       ≡ codes "def clamp(rate: Z): Z = {\n  Contract(\n    Requires(rate >= 0),\n    Ensures(0 <= Res, Res <= most)\n  )\n  var r: Z = rate\n"
       ++ codes "  if (r > most) {\n    r = most\n  } else if (T) {\n  }\n  return r\n}\n"
-  pub loop : file_bytes (fill ∷ [])
+  pub loop : file_bytes false (fill ∷ [])
       ≡ codes "def fill(a: ISZ[Z], n: Z): Unit = {\n  while (i < a.size) {\n    Invariant(\n      Modifies(d, i),\n      0 <= i,\n"
       ++ codes "      All(0 until i)(k => !a(k))\n    )\n    d = d(i ~> 1)\n    spend(b, c)\n  }\n}\n"
-  pub proof : file_bytes (prove ∷ [])
+  pub proof : file_bytes false (prove ∷ [])
       ≡ codes "def p(): Unit = {\n  Contract(\n    Modifies(g)\n  )\n  Deduce(\n    1 (a) by Premise,\n    2 Let((k: Z) => SubProof(\n      3 Assume(b),\n"
       ++ codes "      4 (c) by Subst_<(1, 3)\n    ))\n  )\n}\n"

@@ -14,7 +14,8 @@ use Rattle.slang_grammar.specs.declared.operator.Infix.{Infix}
 use Rattle.slang_grammar.specs.Operators.{infix_of, prefix_level, whole_level}
 use Rattle.slang_grammar.specs.Parts.{TypeText, z_type, b_type, unit_type, sequence_type, record_type, type_tokens, type_tree, ElementText, element_tokens, element_tree, optional, name_token}
 use Rattle.slang_grammar.specs.Expressions.{ExprText, number, truth, falsity, variable, result, entry_value, old_value, sequence, quantified, quantified_indices, bracketed, application, update, field, prefixed, binary, ExprsText, no_exprs, last_expr, expr_then, bound_tokens, indices_token, expr_tokens, exprs_tokens, level, joins, IsOperand, IsGrouped, AreGrouped, prefix_tree, expr_tree, exprs_tree}
-use Rattle.print_expressions.specs.Accounts.{type_account, element_account, in_brackets_unless, is_operand, as_operand, as_prefixed, as_head, expr_account, exprs_account}
+use Rattle.print_expressions.specs.Hefts.{stays}
+use Rattle.print_expressions.specs.Accounts.{type_account, element_account, in_brackets_unless, is_operand, as_operand, as_prefixed, as_head, left_stays, right_stays, head_stays, first_stays, expr_account, exprs_account}
 use Rattle.print_expressions.specs.Laws.{ExpressionsAreShortest}
 use Rattle.print_expressions.proofs.Rows.{row_back, operand_from}
 
@@ -148,15 +149,15 @@ element_short (Some ty) = omega (arith, type_short ty.ty)
 
 -- what is printed of a tree begins with the same form as a text of it, and is not longer
 record SameTop (text : ExprText) (tree : ExprTree) : Type 0 where
-  same_level : level (expr_account tree) ≡ level text
-  same_joins : joins (expr_account tree) ≡ joins text
-  no_more : count (expr_account tree) ≤ count text
+  same_level : level (expr_account false tree) ≡ level text
+  same_joins : joins (expr_account false tree) ≡ joins text
+  no_more : count (expr_account false tree) ≤ count text
 
 -- that, or there is room for brackets
 abbrev IsTight : ExprText → ExprTree → Type 0
-IsTight text tree = SameTop text tree ⊎ (count (expr_account tree) + 2 ≤ count text)
+IsTight text tree = SameTop text tree ⊎ (count (expr_account false tree) + 2 ≤ count text)
 
-not_longer : (text : ExprText) (tree : ExprTree) → IsTight text tree → count (expr_account tree) ≤ count text
+not_longer : (text : ExprText) (tree : ExprTree) → IsTight text tree → count (expr_account false tree) ≤ count text
 not_longer text tree (inl same) = same.no_more
 not_longer text tree (inr slack) = omega arith
 
@@ -165,55 +166,58 @@ in_more true text = omega arith
 in_more false text = omega arith
 
 placed_short : (b : Bool) (text : ExprText) (tree : ExprTree) → IsTight text tree → (SameTop text tree → b ≡ true) →
-    count (in_brackets_unless b (expr_account tree)) ≤ count text
-placed_short b text tree (inl same) stands = subst (λ c. count (in_brackets_unless c (expr_account tree)) ≤ count text) (sym (stands same)) same.no_more
-placed_short b text tree (inr slack) stands = omega (arith, in_more b (expr_account tree))
+    count (in_brackets_unless b (expr_account false tree)) ≤ count text
+placed_short b text tree (inl same) stands = subst (λ c. count (in_brackets_unless c (expr_account false tree)) ≤ count text) (sym (stands same)) same.no_more
+placed_short b text tree (inr slack) stands = omega (arith, in_more b (expr_account false tree))
 
-head_short : (text : ExprText) (tree : ExprTree) → level text ≡ whole_level → IsTight text tree → count (as_head (expr_account tree)) ≤ count text
+head_short : (text : ExprText) (tree : ExprTree) → level text ≡ whole_level → IsTight text tree → count (as_head (expr_account false tree)) ≤ count text
 head_short text tree h t =
-    placed_short (nat_eq (level (expr_account tree)) whole_level) text tree t
-    (λ same. eq-eqb (level (expr_account tree)) whole_level (same.same_level ∙ h))
+    placed_short (nat_eq (level (expr_account false tree)) whole_level) text tree t
+    (λ same. eq-eqb (level (expr_account false tree)) whole_level (same.same_level ∙ h))
 
-prefixed_short : (text : ExprText) (tree : ExprTree) → prefix_level ≤ level text → IsTight text tree → count (as_prefixed (expr_account tree)) ≤ count text
+prefixed_short : (text : ExprText) (tree : ExprTree) → prefix_level ≤ level text → IsTight text tree → count (as_prefixed (expr_account false tree)) ≤ count text
 prefixed_short text tree h t =
-    placed_short (nat_le prefix_level (level (expr_account tree))) text tree t
-    (λ same. le-leb prefix_level (level (expr_account tree)) (let s = same.same_level in omega arith))
+    placed_short (nat_le prefix_level (level (expr_account false tree))) text tree t
+    (λ same. le-leb prefix_level (level (expr_account false tree)) (let s = same.same_level in omega arith))
 
-stands_too : (side : Side) (row : Infix) (text : ExprText) (tree : ExprTree) → IsOperand side row text → SameTop text tree → IsOperand side row (expr_account tree)
+stands_too : (side : Side) (row : Infix) (text : ExprText) (tree : ExprTree) → IsOperand side row text → SameTop text tree → IsOperand side row (expr_account false tree)
 stands_too side row text tree (inl h) same = let s = same.same_level in inl (omega arith)
 stands_too side row text tree (inr h) same = inr (same.same_level ∙ h.0, h.1, same.same_joins ∙ h.2)
 
 operand_short : (side : Side) (row : Infix) (text : ExprText) (tree : ExprTree) → IsOperand side row text → IsTight text tree →
-    count (as_operand side row (expr_account tree)) ≤ count text
+    count (as_operand side row (expr_account false tree)) ≤ count text
 operand_short side row text tree h t =
-    placed_short (is_operand side row (expr_account tree)) text tree t
-    (λ same. operand_from side row (expr_account tree) (stands_too side row text tree h same))
+    placed_short (is_operand side row (expr_account false tree)) text tree t
+    (λ same. operand_from side row (expr_account false tree) (stands_too side row text tree h same))
 
 -- ---- forms
 
-prefix_tight : (by : Prefix) (at place : Place) (text : ExprText) (tree : ExprTree) → count (as_prefixed (expr_account tree)) ≤ count text →
+prefix_tight : (by : Prefix) (at place : Place) (text : ExprText) (tree : ExprTree) → count (as_prefixed (expr_account false tree)) ≤ count text →
     IsTight (prefixed by at text) (prefix_tree by place tree)
 prefix_tight prefix.Not at place text tree h = inl (record { same_level = refl; same_joins = refl; no_more = omega arith })
 prefix_tight prefix.Minus at place text tree h = inl (record { same_level = refl; same_joins = refl; no_more = omega arith })
 
 binary_tight : (row : Infix) (at place : Place) (left right : ExprText) (l r : ExprTree) → infix_of row.sign ≡ Some row → IsOperand Left row left →
     IsOperand Right row right → IsTight left l → IsTight right r → IsTight (binary left row at right) (e.binary place row.operator l r)
+unfolding left_stays right_stays stays
 binary_tight row at place left right l r found on_left on_right tl tr =
     let back = row_back row.sign row found in
     inl (record {
       same_level = ap (λ (own : Infix). own.level) back;
       same_joins = ap (λ (own : Infix). Some own.joins) back;
       no_more = subst
-          (λ (own : Infix). count (binary (as_operand Left own (expr_account l)) own at (as_operand Right own (expr_account r))) ≤ count left + count right + 1)
+          (λ (own : Infix). count (binary (as_operand Left own (expr_account false l)) own at (as_operand Right own (expr_account false r))) ≤ count left + count right + 1)
           (sym back) (omega (arith, operand_short Left row left l on_left tl, operand_short Right row right r on_right tr));
     })
 
-more_short : (tree : ExprTree) (trees : ExprTrees) (n m : ℕ) → count (expr_account tree) ≤ n → counts (exprs_account trees) ≤ m →
-    counts (exprs_account (e.expr_then tree trees)) ≤ n + m + 1
+more_short : (tree : ExprTree) (trees : ExprTrees) (n m : ℕ) → count (expr_account false tree) ≤ n → counts (exprs_account false trees) ≤ m →
+    counts (exprs_account false (e.expr_then tree trees)) ≤ n + m + 1
 more_short tree e.no_exprs n m h k = omega arith
 more_short tree (e.expr_then next trees) n m h k = omega arith
 
 mutual
+  unfolding head_stays first_stays stays
+
   tight : (text : ExprText) → IsGrouped text → IsTight text (expr_tree text)
   tight (number digits place) g = inl (record { same_level = refl; same_joins = refl; no_more = omega arith })
   tight (truth place) g = inl (record { same_level = refl; same_joins = refl; no_more = omega arith })
@@ -251,7 +255,7 @@ mutual
   tight (binary left row place right) g =
       binary_tight row place (place_of (expr_tree left)) left right (expr_tree left) (expr_tree right) g.0 g.1 g.2 (tight left g.3) (tight right g.4)
 
-  all_short : (texts : ExprsText) → AreGrouped texts → counts (exprs_account (exprs_tree texts)) ≤ counts texts
+  all_short : (texts : ExprsText) → AreGrouped texts → counts (exprs_account false (exprs_tree texts)) ≤ counts texts
   all_short no_exprs g = omega arith
   all_short (last_expr text) g = not_longer text (expr_tree text) (tight text g)
   all_short (expr_then text comma more) g =
@@ -261,4 +265,4 @@ mutual
 
 pub expressions_are_shortest : ExpressionsAreShortest
 expressions_are_shortest text g =
-    omega (arith, counted text, counted (expr_account (expr_tree text)), not_longer text (expr_tree text) (tight text g))
+    omega (arith, counted text, counted (expr_account false (expr_tree text)), not_longer text (expr_tree text) (tight text g))

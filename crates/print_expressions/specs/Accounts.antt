@@ -1,5 +1,6 @@
--- How an expression is printed: as an account of the grammar, with brackets only where they are needed, and without places.
-use Rattle.std.specs.Prelude.{ℕ, ◌+◌, nat_eq, nat_le, nat_lt, nat_abs, Bool, false, ◌&&◌, ◌||◌, if◌then◌else◌, List, map, Option, Some, None, codes}
+-- How an expression is printed: as an account of the grammar without places. Plainly, it has brackets only where they are needed. Where a text
+-- would nest too deep so, it is printed lightly, with brackets also where they make what it adds to the weights less.
+use Rattle.std.specs.Prelude.{ℕ, ◌+◌, nat_eq, nat_le, nat_lt, nat_abs, Bool, true, false, ◌&&◌, ◌||◌, if◌then◌else◌, List, map, Option, Some, None, codes}
 use Rattle.std.specs.Option.{option_map}
 use Rattle.std.specs.Int.Digits.{digits_of}
 use denote.Enum.Bare.{sameb}
@@ -18,6 +19,7 @@ use Rattle.slang_grammar.specs.Parts.{TypeText, z_type, b_type, unit_type, seque
 use Rattle.slang_grammar.specs.Expressions.{QuantifierWord, all_word, exists_word, ExprText, number, truth, falsity, variable, result, entry_value, old_value, sequence, quantified, quantified_indices, bracketed, application, update, field, prefixed, binary, ExprsText, no_exprs, last_expr, expr_then, level, joins}
 use Rattle.print_expressions.specs.Bare.{nowhere, bare_name}
 use Rattle.print_expressions.specs.Operators.{row_of}
+use Rattle.print_expressions.specs.Hefts.{Heft, one, around, followed, binary_heft, heft, peak_of, stays}
 
 -- ---- numbers, types, names
 
@@ -68,35 +70,79 @@ as_prefixed text = in_brackets_unless (nat_le prefix_level (level text)) text
 abbrev pub as_head : ExprText → ExprText
 as_head text = in_brackets_unless (nat_eq (level text) whole_level) text
 
+-- the same where the expression may be printed lightly: the part of an operator on its left, and that on its right
+unfoldable pub left_stays : Bool → Infix → ExprText → ExprText → Bool
+left_stays light row left right =
+    let next = heft (as_operand Right row right) in
+    stays light (is_operand Left row left) (binary_heft (heft left) next) (binary_heft (around (heft left).peak) next)
+
+abbrev pub left_operand : Bool → Infix → ExprText → ExprText → ExprText
+left_operand light row left right = in_brackets_unless (left_stays light row left right) left
+
+unfoldable pub right_stays : Bool → Infix → ExprText → ExprText → Bool
+right_stays light row left right =
+    let own = heft (left_operand light row left right) in
+    stays light (is_operand Right row right) (binary_heft own (heft right)) (binary_heft own (around (heft right).peak))
+
+abbrev pub right_operand : Bool → Infix → ExprText → ExprText → ExprText
+right_operand light row left right = in_brackets_unless (right_stays light row left right) right
+
+-- in front of what adds so much
+unfoldable pub head_stays : Bool → ExprText → Heft → Bool
+head_stays light text next =
+    stays light (nat_eq (level text) whole_level) (followed (heft text) next) (followed (around (heft text).peak) next)
+
+abbrev pub head_before : Bool → ExprText → Heft → ExprText
+head_before light text next = in_brackets_unless (head_stays light text next) text
+
+-- the first of two expressions that count together
+unfoldable pub first_stays : Bool → ExprText → ExprText → Bool
+first_stays light text next = stays light true (followed (heft text) (heft next)) (followed (around (heft text).peak) (heft next))
+
+abbrev pub first_before : Bool → ExprText → ExprText → ExprText
+first_before light text next = in_brackets_unless (first_stays light text next) text
+
 -- ---- expressions
 
+abbrev pub binary_account : Bool → Infix → ExprText → ExprText → ExprText
+binary_account light row left right = binary (left_operand light row left right) row nowhere (right_operand light row left right)
+
+abbrev pub application_account : Bool → ExprText → ExprsText → ExprText
+application_account light head arguments = application (head_before light head (around (peak_of arguments))) nowhere arguments nowhere
+
+abbrev pub update_account : Bool → ExprText → ExprText → ExprText → ExprText
+update_account light head index element =
+    let first = first_before light index element in
+    update (head_before light head (around (followed (heft first) (heft element)).peak)) nowhere first nowhere element nowhere
+
 abbrev mutual
-  pub expr_account : ExprTree → ExprText
-  expr_account (e.number place z) = number (numeral (nat_abs z)) nowhere
-  expr_account (e.truth place) = truth nowhere
-  expr_account (e.falsity place) = falsity nowhere
-  expr_account (e.name text place) = variable (record { text = text; place = nowhere })
-  expr_account (e.result place ty) = result nowhere (option_map element_account ty)
-  expr_account (e.entry_value place written) = entry_value nowhere nowhere (bare_name written) nowhere
-  expr_account (e.old_value place written) = old_value nowhere nowhere (bare_name written) nowhere
-  expr_account (e.minus place operand) = prefixed prefix.Minus nowhere (as_prefixed (expr_account operand))
-  expr_account (e.negation place operand) = prefixed prefix.Not nowhere (as_prefixed (expr_account operand))
-  expr_account (e.binary place operator left right) =
-      binary (as_operand Left (row_of operator) (expr_account left)) (row_of operator) nowhere (as_operand Right (row_of operator) (expr_account right))
-  expr_account (e.application place head arguments) = application (as_head (expr_account head)) nowhere (exprs_account arguments) nowhere
-  expr_account (e.update place head index element) =
-      update (as_head (expr_account head)) nowhere (expr_account index) nowhere (expr_account element) nowhere
-  expr_account (e.field place head written) = field (as_head (expr_account head)) nowhere (bare_name written)
-  expr_account (e.sequence place ty elements) = sequence nowhere (option_map element_account ty) nowhere (exprs_account elements) nowhere
-  expr_account (e.quantified place by low high named body) =
-      quantified (word_of by) nowhere nowhere (expr_account low) nowhere (expr_account high) nowhere
-      (record { left = nowhere; variable = bare_name named; arrow = nowhere; right = nowhere }) (expr_account body)
-  expr_account (e.quantified_indices place by head named body) =
-      quantified_indices (word_of by) nowhere nowhere (as_head (expr_account head)) nowhere nowhere nowhere
-      (record { left = nowhere; variable = bare_name named; arrow = nowhere; right = nowhere }) (expr_account body)
+  -- lightly, or plainly
+  pub expr_account : Bool → ExprTree → ExprText
+  expr_account light (e.number place z) = number (numeral (nat_abs z)) nowhere
+  expr_account light (e.truth place) = truth nowhere
+  expr_account light (e.falsity place) = falsity nowhere
+  expr_account light (e.name text place) = variable (record { text = text; place = nowhere })
+  expr_account light (e.result place ty) = result nowhere (option_map element_account ty)
+  expr_account light (e.entry_value place written) = entry_value nowhere nowhere (bare_name written) nowhere
+  expr_account light (e.old_value place written) = old_value nowhere nowhere (bare_name written) nowhere
+  expr_account light (e.minus place operand) = prefixed prefix.Minus nowhere (as_prefixed (expr_account light operand))
+  expr_account light (e.negation place operand) = prefixed prefix.Not nowhere (as_prefixed (expr_account light operand))
+  expr_account light (e.binary place operator left right) =
+      binary_account light (row_of operator) (expr_account light left) (expr_account light right)
+  expr_account light (e.application place head arguments) = application_account light (expr_account light head) (exprs_account light arguments)
+  expr_account light (e.update place head index element) =
+      update_account light (expr_account light head) (expr_account light index) (expr_account light element)
+  expr_account light (e.field place head written) = field (head_before light (expr_account light head) one) nowhere (bare_name written)
+  expr_account light (e.sequence place ty elements) = sequence nowhere (option_map element_account ty) nowhere (exprs_account light elements) nowhere
+  expr_account light (e.quantified place by low high named body) =
+      quantified (word_of by) nowhere nowhere (first_before light (expr_account light low) (expr_account light high)) nowhere (expr_account light high) nowhere
+      (record { left = nowhere; variable = bare_name named; arrow = nowhere; right = nowhere }) (expr_account light body)
+  expr_account light (e.quantified_indices place by head named body) =
+      quantified_indices (word_of by) nowhere nowhere (as_head (expr_account light head)) nowhere nowhere nowhere
+      (record { left = nowhere; variable = bare_name named; arrow = nowhere; right = nowhere }) (expr_account light body)
 
   -- no comma stands behind the last
-  pub exprs_account : ExprTrees → ExprsText
-  exprs_account e.no_exprs = no_exprs
-  exprs_account (e.expr_then tree e.no_exprs) = last_expr (expr_account tree)
-  exprs_account (e.expr_then tree (e.expr_then next trees)) = expr_then (expr_account tree) nowhere (exprs_account (e.expr_then next trees))
+  pub exprs_account : Bool → ExprTrees → ExprsText
+  exprs_account light e.no_exprs = no_exprs
+  exprs_account light (e.expr_then tree e.no_exprs) = last_expr (expr_account light tree)
+  exprs_account light (e.expr_then tree (e.expr_then next trees)) = expr_then (expr_account light tree) nowhere (exprs_account light (e.expr_then next trees))

@@ -1,4 +1,5 @@
 pub mod Bare
 pub mod Operators
+pub mod Hefts
 pub mod Accounts
 pub mod Laws

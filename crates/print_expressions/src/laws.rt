@@ -15,7 +15,7 @@ pub fn places_are_not_printed()
     ensures { PlacesAreNotPrinted }
 {}
 
-/// No text of the same tree has fewer tokens than what is printed.
+/// No text of the same tree has fewer tokens than what is printed plainly.
 pub fn expressions_are_shortest()
     ensures { ExpressionsAreShortest }
 {}

@@ -1,5 +1,5 @@
 -- How declarations are laid out.
-use Rattle.std.specs.Prelude.{ℕ, List, [], ◌∷◌, ◌++◌, Option, Some, None}
+use Rattle.std.specs.Prelude.{Bool, ℕ, List, [], ◌∷◌, ◌++◌, Option, Some, None}
 use Rattle.slang_lexer.specs.declared.token.TokenKind.TheVariants as kind
 use Rattle.slang_tree.specs.DeclTree.{DeclTree}
 use Rattle.slang_tree.specs.declared.place.Place.{Place}
@@ -95,6 +95,6 @@ gap_between (Some before) decl = line 0
 abbrev pub file_pieces : FileText → List Piece
 file_pieces file = listed_pieces kind.Newline (λ before decl. decl_pieces (gap_between before decl) decl) None file.front file.last
 
--- the bytes that are printed of a file
-abbrev pub file_bytes : List DeclTree → List ℕ
-file_bytes decls = bytes_of (file_pieces (file_account decls))
+-- the bytes that are printed of a file, lightly or plainly
+abbrev pub file_bytes : Bool → List DeclTree → List ℕ
+file_bytes light decls = bytes_of (file_pieces (file_account light decls))

@@ -1,5 +1,5 @@
 -- What is printed of files does not depend on places.
-use Rattle.std.proofs.Common.{◌≡◌, List, [], ◌∷◌, ◌++◌, map, Option, Some, None, refl, sym, ap, ap₂, ◌∙◌, subst}
+use Rattle.std.proofs.Common.{Bool, ◌≡◌, List, [], ◌∷◌, ◌++◌, map, Option, Some, None, refl, sym, ap, ap₂, ◌∙◌, subst}
 use Rattle.std.specs.Option.{option_map}
 use Rattle.slang_tree.specs.declared.expression.Name.{Name}
 use Rattle.slang_tree.specs.declared.place.Place.{Place}
@@ -55,28 +55,6 @@ fields_same : (named : List TypedName) → map field_account (map bare_typed nam
 fields_same [] = refl
 fields_same (name ∷ named) = ap₂ (λ x xs. record { fixed = None; param = x } ∷ xs) (param_same name) (fields_same named)
 
-requires_same : (claims : List ExprTree) → requires_clauses (map bare_expr claims) ≡ requires_clauses claims
-requires_same [] = refl
-requires_same (claim ∷ claims) =
-    ap (λ texts. requires_clause nowhere (record { left = nowhere; claims = texts; right = nowhere }) ∷ []) (exprs_same (claim ∷ claims))
-
-ensures_same : (claims : List ExprTree) → ensures_clauses (map bare_expr claims) ≡ ensures_clauses claims
-ensures_same [] = refl
-ensures_same (claim ∷ claims) =
-    ap (λ texts. ensures_clause nowhere (record { left = nowhere; claims = texts; right = nowhere }) ∷ []) (exprs_same (claim ∷ claims))
-
-modifies_same : (names : List Name) → modifies_clauses (map bare_name names) ≡ modifies_clauses names
-modifies_same [] = refl
-modifies_same (name ∷ names) = ap (λ ns. modifies_clause nowhere ns ∷ []) (names_alike (name ∷ names))
-
-stmts_same : (stmts : List StmtTree) → stmt_parts (map bare_stmt stmts) ≡ stmt_parts stmts
-stmts_same [] = refl
-stmts_same (stmt ∷ stmts) = ap₂ (λ x xs. stmt_part x ∷ xs) (stmt_same stmt) (stmts_same stmts)
-
-return_same : (returned : Option ReturnTree) → return_parts (option_map bare_return returned) ≡ return_parts returned
-return_same None = refl
-return_same (Some returned) = ap (λ e. return_part nowhere e ∷ []) (places_are_not_printed returned.value)
-
 abbrev printed_with : MethodDeclTree → List ParamText → TypeTree → List PartText → MethodText
 printed_with decl params ty parts = record {
   word = nowhere;
@@ -91,58 +69,79 @@ printed_with decl params ty parts = record {
   end = nowhere;
 }
 
-method_same : (decl : MethodDeclTree) → method_account (bare_method decl) ≡ method_account decl
-method_same decl =
-    let rest = stmt_parts (map bare_stmt decl.body) in
-    let last = return_parts (option_map bare_return decl.returned) in
-    ap (λ ps. printed_with decl ps (bare_type decl.result) (contract_parts (requires_clauses (map bare_expr decl.requires_) ++ modifies_clauses (map bare_name decl.modifies)
-    ++ ensures_clauses (map bare_expr decl.ensures_)) ++ rest ++ last)) (params_same decl.params)
-    ∙ ap₂ (λ r m. printed_with decl (map param_account decl.params) (bare_type decl.result) (contract_parts (r ++ m ++ ensures_clauses (map bare_expr decl.ensures_)) ++ rest ++ last))
-    (requires_same decl.requires_) (modifies_same decl.modifies)
-    ∙ ap₂ (λ e s. printed_with decl (map param_account decl.params) (bare_type decl.result)
-    (contract_parts (requires_clauses decl.requires_ ++ modifies_clauses decl.modifies ++ e) ++ s ++ last)) (ensures_same decl.ensures_) (stmts_same decl.body)
-    ∙ ap (λ l. printed_with decl (map param_account decl.params) (bare_type decl.result)
-    (contract_parts (requires_clauses decl.requires_ ++ modifies_clauses decl.modifies ++ ensures_clauses decl.ensures_) ++ stmt_parts decl.body ++ l)) (return_same decl.returned)
-    ∙ ap (λ ty. record {
-      word = nowhere;
-      written = bare_name decl.written;
-      left = nowhere;
-      params = listed_of (map param_account decl.params);
-      right = nowhere;
-      result = record { colon = nowhere; ty = ty };
-      equals = nowhere;
-      begin = nowhere;
-      body = listed_of (contract_parts (requires_clauses decl.requires_ ++ modifies_clauses decl.modifies ++ ensures_clauses decl.ensures_) ++ stmt_parts decl.body
-          ++ return_parts decl.returned);
-      end = nowhere;
-    }) (type_bare decl.result)
-
--- ---- files
+modifies_same : (names : List Name) → modifies_clauses (map bare_name names) ≡ modifies_clauses names
+modifies_same [] = refl
+modifies_same (name ∷ names) = ap (λ ns. modifies_clause nowhere ns ∷ []) (names_alike (name ∷ names))
 
 paths_same : (names : List Name) → map path_account (map bare_name names) ≡ map path_account names
 paths_same [] = refl
 paths_same (name ∷ names) = ap (λ ns. path_account name ∷ ns) (paths_same names)
 
-decl_same : (decl : DeclTree) → decl_account (bare_decl decl) ≡ decl_account decl
-decl_same (t.import_decl place []) = refl
-decl_same (t.import_decl place (name ∷ names)) = ap (import_text nowhere (bare_name name)) (paths_same names)
-decl_same (t.global_decl decl) =
-    ap₂ (λ a b. global_text decl.fixed nowhere (bare_name decl.written) a nowhere b) (typed_same decl.ty) (const_same decl.init)
-decl_same (t.record_decl decl) =
-    ap (λ fs. record_text nowhere nowhere nowhere (bare_name decl.written) nowhere (listed_of fs) nowhere) (fields_same decl.fields)
-decl_same (t.method_decl decl) = ap method_text (method_same decl)
+module _ (light : Bool) where
+  requires_same : (claims : List ExprTree) → requires_clauses light (map bare_expr claims) ≡ requires_clauses light claims
+  requires_same [] = refl
+  requires_same (claim ∷ claims) =
+      ap (λ texts. requires_clause nowhere (record { left = nowhere; claims = texts; right = nowhere }) ∷ []) (exprs_same light (claim ∷ claims))
 
-fronts_same : (decls : List DeclTree) → map {B = DeclText × Place} (λ decl. (decl_account decl, nowhere)) (map bare_decl decls) ≡ map {B = DeclText × Place} (λ decl. (decl_account decl, nowhere)) decls
-fronts_same [] = refl
-fronts_same (decl ∷ decls) = ap₂ (λ x xs. (x, nowhere) ∷ xs) (decl_same decl) (fronts_same decls)
+  ensures_same : (claims : List ExprTree) → ensures_clauses light (map bare_expr claims) ≡ ensures_clauses light claims
+  ensures_same [] = refl
+  ensures_same (claim ∷ claims) =
+      ap (λ texts. ensures_clause nowhere (record { left = nowhere; claims = texts; right = nowhere }) ∷ []) (exprs_same light (claim ∷ claims))
+
+  stmts_same : (stmts : List StmtTree) → stmt_parts light (map bare_stmt stmts) ≡ stmt_parts light stmts
+  stmts_same [] = refl
+  stmts_same (stmt ∷ stmts) = ap₂ (λ x xs. stmt_part x ∷ xs) (stmt_same light stmt) (stmts_same stmts)
+
+  return_same : (returned : Option ReturnTree) → return_parts light (option_map bare_return returned) ≡ return_parts light returned
+  return_same None = refl
+  return_same (Some returned) = ap (λ e. return_part nowhere e ∷ []) (places_are_not_printed light returned.value)
+
+  method_same : (decl : MethodDeclTree) → method_account light (bare_method decl) ≡ method_account light decl
+  method_same decl =
+      let rest = stmt_parts light (map bare_stmt decl.body) in
+      let last = return_parts light (option_map bare_return decl.returned) in
+      ap (λ ps. printed_with decl ps (bare_type decl.result) (contract_parts (requires_clauses light (map bare_expr decl.requires_) ++ modifies_clauses (map bare_name decl.modifies)
+      ++ ensures_clauses light (map bare_expr decl.ensures_)) ++ rest ++ last)) (params_same decl.params)
+      ∙ ap₂ (λ r m. printed_with decl (map param_account decl.params) (bare_type decl.result) (contract_parts (r ++ m ++ ensures_clauses light (map bare_expr decl.ensures_)) ++ rest ++ last))
+      (requires_same decl.requires_) (modifies_same decl.modifies)
+      ∙ ap₂ (λ e s. printed_with decl (map param_account decl.params) (bare_type decl.result)
+      (contract_parts (requires_clauses light decl.requires_ ++ modifies_clauses decl.modifies ++ e) ++ s ++ last)) (ensures_same decl.ensures_) (stmts_same decl.body)
+      ∙ ap (λ l. printed_with decl (map param_account decl.params) (bare_type decl.result)
+      (contract_parts (requires_clauses light decl.requires_ ++ modifies_clauses decl.modifies ++ ensures_clauses light decl.ensures_) ++ stmt_parts light decl.body ++ l)) (return_same decl.returned)
+      ∙ ap (λ ty. record {
+        word = nowhere;
+        written = bare_name decl.written;
+        left = nowhere;
+        params = listed_of (map param_account decl.params);
+        right = nowhere;
+        result = record { colon = nowhere; ty = ty };
+        equals = nowhere;
+        begin = nowhere;
+        body = listed_of (contract_parts (requires_clauses light decl.requires_ ++ modifies_clauses decl.modifies ++ ensures_clauses light decl.ensures_) ++ stmt_parts light decl.body
+            ++ return_parts light decl.returned);
+        end = nowhere;
+      }) (type_bare decl.result)
+
+  decl_same : (decl : DeclTree) → decl_account light (bare_decl decl) ≡ decl_account light decl
+  decl_same (t.import_decl place []) = refl
+  decl_same (t.import_decl place (name ∷ names)) = ap (import_text nowhere (bare_name name)) (paths_same names)
+  decl_same (t.global_decl decl) =
+      ap₂ (λ a b. global_text decl.fixed nowhere (bare_name decl.written) a nowhere b) (typed_same decl.ty) (const_same decl.init)
+  decl_same (t.record_decl decl) =
+      ap (λ fs. record_text nowhere nowhere nowhere (bare_name decl.written) nowhere (listed_of fs) nowhere) (fields_same decl.fields)
+  decl_same (t.method_decl decl) = ap method_text (method_same decl)
+
+  fronts_same : (decls : List DeclTree) → map {B = DeclText × Place} (λ decl. (decl_account light decl, nowhere)) (map bare_decl decls) ≡ map {B = DeclText × Place} (λ decl. (decl_account light decl, nowhere)) decls
+  fronts_same [] = refl
+  fronts_same (decl ∷ decls) = ap₂ (λ x xs. (x, nowhere) ∷ xs) (decl_same decl) (fronts_same decls)
 
 pub files_are_printed_without_places : FilesArePrintedWithoutPlaces
-files_are_printed_without_places decls = ap (λ front. record { front = front; last = None }) (fronts_same decls)
+files_are_printed_without_places light decls = ap (λ front. record { front = front; last = None }) (fronts_same light decls)
 
 pub printed_files_read_back : PrintedFilesReadBack
-printed_files_read_back decls file h same =
-    let alike : file_account (file_tree file) ≡ file_account decls =
-    sym (files_are_printed_without_places (file_tree file)) ∙ ap file_account (sym same) ∙ files_are_printed_without_places decls in
-    subst (λ tokens. InGrammar tokens (bare_file decls)) (sym (layout_has_the_tokens (file_account decls)))
+printed_files_read_back light decls file h same =
+    let alike : file_account light (file_tree file) ≡ file_account light decls =
+    sym (files_are_printed_without_places light (file_tree file)) ∙ ap (file_account light) (sym same) ∙ files_are_printed_without_places light decls in
+    subst (λ tokens. InGrammar tokens (bare_file decls)) (sym (layout_has_the_tokens (file_account light decls)))
     (subst (λ text. InGrammar (file_tokens text) (bare_file decls)) alike
-    (subst (λ bare. InGrammar (file_tokens (file_account (file_tree file))) bare) (sym same) (files_read_back file h)))
+    (subst (λ bare. InGrammar (file_tokens (file_account light (file_tree file))) bare) (sym same) (files_read_back light file h)))

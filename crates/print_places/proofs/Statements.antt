@@ -1,5 +1,5 @@
 -- What is printed of statements does not depend on places.
-use Rattle.std.proofs.Common.{◌≡◌, true, false, List, [], ◌∷◌, map, Option, Some, None, refl, ap, ap₂, ◌∙◌}
+use Rattle.std.proofs.Common.{Bool, ◌≡◌, true, false, List, [], ◌∷◌, map, Option, Some, None, refl, ap, ap₂, ◌∙◌}
 use Rattle.std.specs.Option.{option_map}
 use Rattle.slang_tree.specs.declared.expression.Name.{Name}
 use Rattle.slang_tree.specs.declared.statement.Label.{Label}
@@ -44,71 +44,72 @@ exprs_bare : (claims : List ExprTree) → exprs_of (map bare_expr claims) ≡ ba
 exprs_bare [] = refl
 exprs_bare (claim ∷ claims) = ap (e.expr_then (bare_expr claim)) (exprs_bare claims)
 
-pub exprs_same : (claims : List ExprTree) → exprs_account (exprs_of (map bare_expr claims)) ≡ exprs_account (exprs_of claims)
-exprs_same claims = ap exprs_account (exprs_bare claims) ∙ lists_without_places (exprs_of claims)
+module _ (light : Bool) where
+  pub exprs_same : (claims : List ExprTree) → exprs_account light (exprs_of (map bare_expr claims)) ≡ exprs_account light (exprs_of claims)
+  exprs_same claims = ap (exprs_account light) (exprs_bare claims) ∙ lists_without_places light (exprs_of claims)
 
-claims_same : (claims : List ExprTree) → claims_account (map bare_expr claims) ≡ claims_account claims
-claims_same [] = refl
-claims_same (claim ∷ claims) = ap (claims_behind nowhere) (exprs_same (claim ∷ claims))
+  claims_same : (claims : List ExprTree) → claims_account light (map bare_expr claims) ≡ claims_account light claims
+  claims_same [] = refl
+  claims_same (claim ∷ claims) = ap (claims_behind nowhere) (exprs_same (claim ∷ claims))
 
-invariant_same : (names : List Name) (claims : List ExprTree) → invariant_account (map bare_name names) (map bare_expr claims) ≡ invariant_account names claims
-invariant_same names claims =
-    ap₂ (λ ns cs. record { word = nowhere; left = nowhere; modifies = nowhere; names = ns; claims = cs; right = nowhere }) (names_alike names)
-    (claims_same claims)
+  invariant_same : (names : List Name) (claims : List ExprTree) → invariant_account light (map bare_name names) (map bare_expr claims) ≡ invariant_account light names claims
+  invariant_same names claims =
+      ap₂ (λ ns cs. record { word = nowhere; left = nowhere; modifies = nowhere; names = ns; claims = cs; right = nowhere }) (names_alike names)
+      (claims_same claims)
 
--- ---- proofs
+  -- ---- proofs
 
-abbrev assumed_with : Label → ExprText → AssumeText
-assumed_with label claim = record {
-  word = nowhere;
-  left = nowhere;
-  label = label_account label;
-  assume = nowhere;
-  claim_left = nowhere;
-  claim = claim;
-  claim_right = nowhere;
-}
+  abbrev assumed_with : Label → ExprText → AssumeText
+  assumed_with label claim = record {
+    word = nowhere;
+    left = nowhere;
+    label = label_account label;
+    assume = nowhere;
+    claim_left = nowhere;
+    claim = claim;
+    claim_right = nowhere;
+  }
 
-mutual
-  step_same : (step : StepTree) → step_account (bare_step step) ≡ step_account step
-  step_same (t.line label claim rule cites) =
-      ap₂ (λ c s. line (label_account label) nowhere c nowhere nowhere (rule_account rule) s) (places_are_not_printed claim) (cites_same cites)
-  step_same (t.block label assumed given steps) =
-      ap₂ (λ c s. block (label_account label) (assumed_with assumed c) (as_behind s) nowhere) (places_are_not_printed given) (steps_same steps)
-  step_same (t.let_block label variable assumed given steps) =
-      ap₂ (λ c s. let_block (label_account label) (let_account variable) (assumed_with assumed c) (as_behind s) nowhere nowhere) (places_are_not_printed given)
-      (steps_same steps)
+  mutual
+    step_same : (step : StepTree) → step_account light (bare_step step) ≡ step_account light step
+    step_same (t.line label claim rule cites) =
+        ap₂ (λ c s. line (label_account label) nowhere c nowhere nowhere (rule_account rule) s) (places_are_not_printed light claim) (cites_same cites)
+    step_same (t.block label assumed given steps) =
+        ap₂ (λ c s. block (label_account label) (assumed_with assumed c) (as_behind s) nowhere) (places_are_not_printed light given) (steps_same steps)
+    step_same (t.let_block label variable assumed given steps) =
+        ap₂ (λ c s. let_block (label_account label) (let_account variable) (assumed_with assumed c) (as_behind s) nowhere nowhere) (places_are_not_printed light given)
+        (steps_same steps)
 
-  steps_same : (steps : StepTrees) → steps_account (bare_steps steps) ≡ steps_account steps
-  steps_same t.no_steps = refl
-  steps_same (t.step_then step t.no_steps) = ap last_step (step_same step)
-  steps_same (t.step_then step (t.step_then next steps)) = ap₂ (λ s ss. step_then s nowhere ss) (step_same step) (steps_same (t.step_then next steps))
+    steps_same : (steps : StepTrees) → steps_account light (bare_steps steps) ≡ steps_account light steps
+    steps_same t.no_steps = refl
+    steps_same (t.step_then step t.no_steps) = ap last_step (step_same step)
+    steps_same (t.step_then step (t.step_then next steps)) = ap₂ (λ s ss. step_then s nowhere ss) (step_same step) (steps_same (t.step_then next steps))
 
--- ---- statements
+  -- ---- statements
 
-abbrev tested : ExprText → TestText
-tested test = record { word = nowhere; left = nowhere; test = test; right = nowhere }
+  abbrev tested : ExprText → TestText
+  tested test = record { word = nowhere; left = nowhere; test = test; right = nowhere }
 
-mutual
-  pub stmt_same : (stmt : StmtTree) → stmt_account (bare_stmt stmt) ≡ stmt_account stmt
-  stmt_same (t.val place written ty e) = ap₂ (λ a b. value true nowhere (bare_name written) a nowhere b) (typed_same ty) (places_are_not_printed e)
-  stmt_same (t.var place written ty e) = ap₂ (λ a b. value false nowhere (bare_name written) a nowhere b) (typed_same ty) (places_are_not_printed e)
-  stmt_same (t.assignment written e) = ap (assignment (bare_name written) nowhere) (places_are_not_printed e)
-  stmt_same (t.call written arguments) = ap (λ a. call (bare_name written) nowhere a nowhere) (lists_without_places arguments)
-  stmt_same (t.branch place test on_true otherwise) =
-      ap₂ (λ a b. branch (if_then (tested a) (s.block nowhere b nowhere) (else_account (bare_else otherwise)))) (places_are_not_printed test) (stmts_same on_true)
-      ∙ ap (λ o. branch (if_then (test_account test) (s.block nowhere (stmts_account on_true) nowhere) o)) (else_same otherwise)
-  stmt_same (t.loop place test modifies claims stmts) =
-      ap₂ (λ a i. loop (tested a) nowhere i (as_body (stmts_account (bare_stmts stmts))) nowhere) (places_are_not_printed test) (invariant_same modifies claims)
-      ∙ ap (λ b. loop (test_account test) nowhere (invariant_account modifies claims) (as_body b) nowhere) (stmts_same stmts)
-  stmt_same (t.assertion place claim) = ap (λ c. assertion nowhere nowhere c nowhere) (places_are_not_printed claim)
-  stmt_same (t.deduction place steps) = ap (λ c. deduction nowhere nowhere c nowhere) (steps_same steps)
+  mutual
+    pub stmt_same : (stmt : StmtTree) → stmt_account light (bare_stmt stmt) ≡ stmt_account light stmt
+    stmt_same (t.val place written ty e) = ap₂ (λ a b. value true nowhere (bare_name written) a nowhere b) (typed_same ty) (places_are_not_printed light e)
+    stmt_same (t.var place written ty e) = ap₂ (λ a b. value false nowhere (bare_name written) a nowhere b) (typed_same ty) (places_are_not_printed light e)
+    stmt_same (t.assignment written e) = ap (assignment (bare_name written) nowhere) (places_are_not_printed light e)
+    stmt_same (t.call written arguments) = ap (λ a. call (bare_name written) nowhere a nowhere) (lists_without_places light arguments)
+    stmt_same (t.branch place test on_true otherwise) =
+        ap₂ (λ a b. branch (if_then (tested a) (s.block nowhere b nowhere) (else_account light (bare_else otherwise)))) (places_are_not_printed light test) (stmts_same on_true)
+        ∙ ap (λ o. branch (if_then (test_account light test) (s.block nowhere (stmts_account light on_true) nowhere) o)) (else_same otherwise)
+    stmt_same (t.loop place test modifies claims stmts) =
+        ap₂ (λ a i. loop (tested a) nowhere i (as_body (stmts_account light (bare_stmts stmts))) nowhere) (places_are_not_printed light test) (invariant_same modifies claims)
+        ∙ ap (λ b. loop (test_account light test) nowhere (invariant_account light modifies claims) (as_body b) nowhere) (stmts_same stmts)
+    stmt_same (t.assertion place claim) = ap (λ c. assertion nowhere nowhere c nowhere) (places_are_not_printed light claim)
+    stmt_same (t.deduction place steps) = ap (λ c. deduction nowhere nowhere c nowhere) (steps_same steps)
 
-  stmts_same : (stmts : StmtTrees) → stmts_account (bare_stmts stmts) ≡ stmts_account stmts
-  stmts_same t.no_stmts = refl
-  stmts_same (t.stmt_then stmt t.no_stmts) = ap last_stmt (stmt_same stmt)
-  stmts_same (t.stmt_then stmt (t.stmt_then next stmts)) = ap₂ (λ a b. stmt_then a nowhere b) (stmt_same stmt) (stmts_same (t.stmt_then next stmts))
+    stmts_same : (stmts : StmtTrees) → stmts_account light (bare_stmts stmts) ≡ stmts_account light stmts
+    stmts_same t.no_stmts = refl
+    stmts_same (t.stmt_then stmt t.no_stmts) = ap last_stmt (stmt_same stmt)
+    stmts_same (t.stmt_then stmt (t.stmt_then next stmts)) = ap₂ (λ a b. stmt_then a nowhere b) (stmt_same stmt) (stmts_same (t.stmt_then next stmts))
 
-  else_same : (otherwise : ElseTree) → else_account (bare_else otherwise) ≡ else_account otherwise
-  else_same t.no_else = refl
-  else_same (t.else_then stmts) = ap as_else (stmts_same stmts)
+    else_same : (otherwise : ElseTree) → else_account light (bare_else otherwise) ≡ else_account light otherwise
+    else_same t.no_else = refl
+    else_same (t.else_then stmts) = ap as_else (stmts_same stmts)

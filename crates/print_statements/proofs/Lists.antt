@@ -1,5 +1,5 @@
 -- Lists, names, labels and claims that are printed.
-use Rattle.std.proofs.Common.{◌≡◌, ℕ, ◌^◌, ◌<◌, nat_lt, ◌&&◌, List, [], ◌∷◌, map, length, Option, Some, None, refl, sym, ap, ◌∙◌, subst, arith, ltb-true}
+use Rattle.std.proofs.Common.{Bool, ◌≡◌, ℕ, ◌^◌, ◌<◌, nat_lt, ◌&&◌, List, [], ◌∷◌, map, length, Option, Some, None, refl, sym, ap, ◌∙◌, subst, arith, ltb-true}
 use Rattle.std.specs.List.{AllByRecursion}
 use Rattle.std.proofs.lemmas.List.{length-map}
 use Rattle.std.proofs.lemmas.Bool.{and_parts}
@@ -81,24 +81,25 @@ bare_list : (claims : List ExprTree) → expr_list (bare_exprs (exprs_of claims)
 bare_list [] = refl
 bare_list (claim ∷ claims) = ap (λ ts. bare_expr claim ∷ ts) (bare_list claims)
 
-pub expressions_back : (texts : ExprsText) → AreGrouped texts →
-    AreGrouped (exprs_account (exprs_of (expr_trees texts))) × (expr_trees (exprs_account (exprs_of (expr_trees texts))) ≡ map bare_expr (expr_trees texts))
-expressions_back texts g =
-    let p = expression_lists_read_back texts g in
-    let same = trees_of_list texts in (
-      subst (λ ts. AreGrouped (exprs_account ts)) (sym same) p.0,
-      list_of_trees (exprs_account (exprs_of (expr_trees texts)))
-          ∙ ap (λ ts. expr_list (exprs_tree (exprs_account ts))) same ∙ ap expr_list p.1 ∙ ap (λ ts. expr_list (bare_exprs ts)) (sym same)
-          ∙ bare_list (expr_trees texts),
-    )
+module _ (light : Bool) where
+  pub expressions_back : (texts : ExprsText) → AreGrouped texts →
+      AreGrouped (exprs_account light (exprs_of (expr_trees texts))) × (expr_trees (exprs_account light (exprs_of (expr_trees texts))) ≡ map bare_expr (expr_trees texts))
+  expressions_back texts g =
+      let p = expression_lists_read_back light texts g in
+      let same = trees_of_list texts in (
+        subst (λ ts. AreGrouped (exprs_account light ts)) (sym same) p.0,
+        list_of_trees (exprs_account light (exprs_of (expr_trees texts)))
+            ∙ ap (λ ts. expr_list (exprs_tree (exprs_account light ts))) same ∙ ap expr_list p.1 ∙ ap (λ ts. expr_list (bare_exprs ts)) (sym same)
+            ∙ bare_list (expr_trees texts),
+      )
 
-pub claims_back : (behind : ClaimsBehind) → AreClaimsBehind behind →
-    AreClaimsBehind (claims_account (claims_behind_trees behind))
-    × (claims_behind_trees (claims_account (claims_behind_trees behind)) ≡ map bare_expr (claims_behind_trees behind))
-claims_back no_claims g = (tt, refl)
-claims_back (claims_behind comma texts) g = at (expr_trees texts) (expressions_back texts g)
-  where
-    at : (claims : List ExprTree) → AreGrouped (exprs_account (exprs_of claims)) × (expr_trees (exprs_account (exprs_of claims)) ≡ map bare_expr claims) →
-        AreClaimsBehind (claims_account claims) × (claims_behind_trees (claims_account claims) ≡ map bare_expr claims)
-    at [] p = (tt, refl)
-    at (claim ∷ claims) p = p
+  pub claims_back : (behind : ClaimsBehind) → AreClaimsBehind behind →
+      AreClaimsBehind (claims_account light (claims_behind_trees behind))
+      × (claims_behind_trees (claims_account light (claims_behind_trees behind)) ≡ map bare_expr (claims_behind_trees behind))
+  claims_back no_claims g = (tt, refl)
+  claims_back (claims_behind comma texts) g = at (expr_trees texts) (expressions_back texts g)
+    where
+      at : (claims : List ExprTree) → AreGrouped (exprs_account light (exprs_of claims)) × (expr_trees (exprs_account light (exprs_of claims)) ≡ map bare_expr claims) →
+          AreClaimsBehind (claims_account light claims) × (claims_behind_trees (claims_account light claims) ≡ map bare_expr claims)
+      at [] p = (tt, refl)
+      at (claim ∷ claims) p = p

@@ -1,5 +1,5 @@
 -- How statements and proofs are printed, as accounts of the grammar without places.
-use Rattle.std.specs.Prelude.{true, false, if◌then◌else◌, List, [], ◌∷◌, map, Option, Some, None, codes}
+use Rattle.std.specs.Prelude.{Bool, true, false, if◌then◌else◌, List, [], ◌∷◌, map, Option, Some, None, codes}
 use Rattle.std.specs.Option.{option_map}
 use Rattle.std.specs.Str.{bytes_eq}
 use Rattle.slang_tree.specs.declared.expression.Name.{Name}
@@ -43,17 +43,6 @@ abbrev pub cites_account : List Label → Option CitesText
 cites_account [] = None
 cites_account (label ∷ labels) = Some (record { left = nowhere; labels = listed_of (map label_account (label ∷ labels)); right = nowhere })
 
-abbrev pub assume_account : Label → ExprTree → AssumeText
-assume_account label given = record {
-  word = nowhere;
-  left = nowhere;
-  label = label_account label;
-  assume = nowhere;
-  claim_left = nowhere;
-  claim = expr_account given;
-  claim_right = nowhere;
-}
-
 abbrev pub let_account : Name → LetText
 let_account variable = record {
   word = nowhere;
@@ -71,38 +60,6 @@ abbrev pub as_behind : StepsText → BehindText
 as_behind no_steps = nothing_behind
 as_behind steps = behind nowhere steps
 
-abbrev mutual
-  pub step_account : StepTree → StepText
-  step_account (t.line label claim rule cites) =
-      line (label_account label) nowhere (expr_account claim) nowhere nowhere (rule_account rule) (cites_account cites)
-  step_account (t.block label assumed given steps) = block (label_account label) (assume_account assumed given) (as_behind (steps_account steps)) nowhere
-  step_account (t.let_block label variable assumed given steps) =
-      let_block (label_account label) (let_account variable) (assume_account assumed given) (as_behind (steps_account steps)) nowhere nowhere
-
-  pub steps_account : StepTrees → StepsText
-  steps_account t.no_steps = no_steps
-  steps_account (t.step_then step t.no_steps) = last_step (step_account step)
-  steps_account (t.step_then step (t.step_then next steps)) = step_then (step_account step) nowhere (steps_account (t.step_then next steps))
-
--- ---- statements
-
-abbrev pub test_account : ExprTree → TestText
-test_account test = record { word = nowhere; left = nowhere; test = expr_account test; right = nowhere }
-
-abbrev pub claims_account : List ExprTree → ClaimsBehind
-claims_account [] = no_claims
-claims_account (claim ∷ claims) = claims_behind nowhere (exprs_account (exprs_of (claim ∷ claims)))
-
-abbrev pub invariant_account : List Name → List ExprTree → InvariantText
-invariant_account modifies claims = record {
-  word = nowhere;
-  left = nowhere;
-  modifies = nowhere;
-  names = names_account modifies;
-  claims = claims_account claims;
-  right = nowhere;
-}
-
 -- what stands behind `else`: an `if` that is its one statement stands there without braces
 abbrev pub as_else : StmtsText → ElseText
 as_else (last_stmt (branch text)) = else_if nowhere text
@@ -112,24 +69,70 @@ abbrev pub as_body : StmtsText → LoopText
 as_body no_stmts = no_body
 as_body stmts = body nowhere stmts
 
-abbrev mutual
-  pub stmt_account : StmtTree → StmtText
-  stmt_account (t.val place written ty e) = value true nowhere (bare_name written) (option_map typed_account ty) nowhere (expr_account e)
-  stmt_account (t.var place written ty e) = value false nowhere (bare_name written) (option_map typed_account ty) nowhere (expr_account e)
-  stmt_account (t.assignment written e) = assignment (bare_name written) nowhere (expr_account e)
-  stmt_account (t.call written arguments) = call (bare_name written) nowhere (exprs_account arguments) nowhere
-  stmt_account (t.branch place test on_true otherwise) =
-      branch (if_then (test_account test) (s.block nowhere (stmts_account on_true) nowhere) (else_account otherwise))
-  stmt_account (t.loop place test modifies claims stmts) =
-      loop (test_account test) nowhere (invariant_account modifies claims) (as_body (stmts_account stmts)) nowhere
-  stmt_account (t.assertion place claim) = assertion nowhere nowhere (expr_account claim) nowhere
-  stmt_account (t.deduction place steps) = deduction nowhere nowhere (steps_account steps) nowhere
+-- ---- expressions among them are printed lightly, or plainly
 
-  pub stmts_account : StmtTrees → StmtsText
-  stmts_account t.no_stmts = no_stmts
-  stmts_account (t.stmt_then stmt t.no_stmts) = last_stmt (stmt_account stmt)
-  stmts_account (t.stmt_then stmt (t.stmt_then next stmts)) = stmt_then (stmt_account stmt) nowhere (stmts_account (t.stmt_then next stmts))
+module _ (light : Bool) where
+  abbrev pub assume_account : Label → ExprTree → AssumeText
+  assume_account label given = record {
+    word = nowhere;
+    left = nowhere;
+    label = label_account label;
+    assume = nowhere;
+    claim_left = nowhere;
+    claim = expr_account light given;
+    claim_right = nowhere;
+  }
 
-  pub else_account : ElseTree → ElseText
-  else_account t.no_else = no_else
-  else_account (t.else_then stmts) = as_else (stmts_account stmts)
+  abbrev mutual
+    pub step_account : StepTree → StepText
+    step_account (t.line label claim rule cites) =
+        line (label_account label) nowhere (expr_account light claim) nowhere nowhere (rule_account rule) (cites_account cites)
+    step_account (t.block label assumed given steps) = block (label_account label) (assume_account assumed given) (as_behind (steps_account steps)) nowhere
+    step_account (t.let_block label variable assumed given steps) =
+        let_block (label_account label) (let_account variable) (assume_account assumed given) (as_behind (steps_account steps)) nowhere nowhere
+
+    pub steps_account : StepTrees → StepsText
+    steps_account t.no_steps = no_steps
+    steps_account (t.step_then step t.no_steps) = last_step (step_account step)
+    steps_account (t.step_then step (t.step_then next steps)) = step_then (step_account step) nowhere (steps_account (t.step_then next steps))
+
+  -- ---- statements
+
+  abbrev pub test_account : ExprTree → TestText
+  test_account test = record { word = nowhere; left = nowhere; test = expr_account light test; right = nowhere }
+
+  abbrev pub claims_account : List ExprTree → ClaimsBehind
+  claims_account [] = no_claims
+  claims_account (claim ∷ claims) = claims_behind nowhere (exprs_account light (exprs_of (claim ∷ claims)))
+
+  abbrev pub invariant_account : List Name → List ExprTree → InvariantText
+  invariant_account modifies claims = record {
+    word = nowhere;
+    left = nowhere;
+    modifies = nowhere;
+    names = names_account modifies;
+    claims = claims_account claims;
+    right = nowhere;
+  }
+
+  abbrev mutual
+    pub stmt_account : StmtTree → StmtText
+    stmt_account (t.val place written ty e) = value true nowhere (bare_name written) (option_map typed_account ty) nowhere (expr_account light e)
+    stmt_account (t.var place written ty e) = value false nowhere (bare_name written) (option_map typed_account ty) nowhere (expr_account light e)
+    stmt_account (t.assignment written e) = assignment (bare_name written) nowhere (expr_account light e)
+    stmt_account (t.call written arguments) = call (bare_name written) nowhere (exprs_account light arguments) nowhere
+    stmt_account (t.branch place test on_true otherwise) =
+        branch (if_then (test_account test) (s.block nowhere (stmts_account on_true) nowhere) (else_account otherwise))
+    stmt_account (t.loop place test modifies claims stmts) =
+        loop (test_account test) nowhere (invariant_account modifies claims) (as_body (stmts_account stmts)) nowhere
+    stmt_account (t.assertion place claim) = assertion nowhere nowhere (expr_account light claim) nowhere
+    stmt_account (t.deduction place steps) = deduction nowhere nowhere (steps_account steps) nowhere
+
+    pub stmts_account : StmtTrees → StmtsText
+    stmts_account t.no_stmts = no_stmts
+    stmts_account (t.stmt_then stmt t.no_stmts) = last_stmt (stmt_account stmt)
+    stmts_account (t.stmt_then stmt (t.stmt_then next stmts)) = stmt_then (stmt_account stmt) nowhere (stmts_account (t.stmt_then next stmts))
+
+    pub else_account : ElseTree → ElseText
+    else_account t.no_else = no_else
+    else_account (t.else_then stmts) = as_else (stmts_account stmts)

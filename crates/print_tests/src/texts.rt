@@ -1,5 +1,5 @@
 //! Whole texts as they might be typed, and as they are printed: two blanks a level, brackets only where they are needed, one clause,
-//! invariant and step a line.
+//! invariant and step a line. Where a text would nest too deep so, it has more brackets.
 
 use lk_io::{MemSink, SureSink};
 use slang_print::{PrintEnd, print_file};
@@ -135,6 +135,55 @@ fn statements_are_laid_out(rt: HostRuntime) -> Result<(), Fail> {
         let wanted = within(rt.alloc(), "def f(): Unit = {\n", body, "}\n")?;
         assert!(rt; is_printed(rt.alloc(), &text, &wanted)?, "{inside}");
     }
+    Ok(())
+}
+
+/// A product of so many ones.
+fn product(alloc: Global, factors: u32, times: &str) -> Result<String, AllocError> {
+    let mut text = String::from_str(alloc, "1")?;
+    for _ in 1..factors {
+        text.push_str(times)?;
+        text.push_str("1")?;
+    }
+    Ok(text)
+}
+
+/// Two of these between others.
+fn both(alloc: Global, part: &str, around: [&str; 3]) -> Result<String, AllocError> {
+    let [before, between, behind] = around;
+    let mut text = within(alloc, before, part, between)?;
+    text.push_str(part)?;
+    text.push_str(behind)?;
+    Ok(text)
+}
+
+/// A sum of two products in brackets, as it might be typed.
+fn typed_sum(alloc: Global, factors: u32) -> Result<String, AllocError> {
+    let part = product(alloc, factors, "*")?;
+    both(alloc, &part, ["def f(): Z = { return (", ")+(", ") }"])
+}
+
+/// The same, printed plainly.
+fn plain_sum(alloc: Global, factors: u32) -> Result<String, AllocError> {
+    let part = product(alloc, factors, " * ")?;
+    both(alloc, &part, ["def f(): Z = {\n  return ", " + ", "\n}\n"])
+}
+
+/// Whether something else is printed of a text, and that of itself.
+fn is_printed_otherwise(alloc: Global, text: &str, plain: &str) -> Result<bool, Fail> {
+    let first = printed(alloc, text)?;
+    let again = printed(alloc, std::str::from_utf8(first.bytes())?)?;
+    Ok(again.bytes() == first.bytes() && first.bytes() != plain.as_bytes())
+}
+
+/// Where a text would nest too deep with brackets only where they are needed, it has more.
+#[test]
+fn what_nests_too_deep_is_printed_lightly(rt: HostRuntime) -> Result<(), Fail> {
+    let alloc = rt.alloc();
+    let plain = is_printed(alloc, &typed_sum(alloc, 99)?, &plain_sum(alloc, 99)?)?;
+    let light = is_printed_otherwise(alloc, &typed_sum(alloc, 100)?, &plain_sum(alloc, 100)?)?;
+    assert!(rt; plain);
+    assert!(rt; light);
     Ok(())
 }
 

@@ -133,25 +133,6 @@ SoundClause clause =
     (around : List Bool) (last : TokenKind) → fits true last (line 2) kind.Requires ≡ true → fits true last (line 2) kind.Modifies ≡ true
     → fits true last (line 2) kind.Ensures ≡ true → Ended (true ∷ around) last (clause_pieces (line 2) clause)
 
-claim_list : (claim : ExprTree) (claims : List ExprTree) → AllByRecursion SoundExpr (claim ∷ claims) → (around : List Bool) (last : TokenKind)
-    → fits (inside around) last none kind.LeftParen ≡ true → Laid around last (claims_pieces (claims_text (claim ∷ claims))) around kind.RightParen
-claim_list claim claims h around last f =
-    opening refl (laid.sign refl refl) f
-    (close_paren nowhere (exprs_laid (exprs_of (claim ∷ claims)) (list_sound (claim ∷ claims) h) tt around kind.LeftParen none blank (enters_paren true)
-    (enters_blank true kind.Comma refl)))
-
-requires_laid : (claims : List ExprTree) → AllByRecursion SoundExpr claims → AllByRecursion SoundClause (requires_clauses claims)
-unfolding words
-requires_laid [] h = tt
-requires_laid (claim ∷ claims) h = (
-  λ around last r m e. record {
-    end = kind.RightParen;
-    ends = refl;
-    laid = plain refl (laid.word refl refl) r (claim_list claim claims h (true ∷ around) kind.Requires refl);
-  },
-  tt,
-)
-
 modifies_laid : (names : List Name) → AllByRecursion IsNamed names → AllByRecursion SoundClause (modifies_clauses names)
 unfolding words
 modifies_laid [] h = tt
@@ -164,27 +145,9 @@ modifies_laid (name ∷ names) h = (
   tt,
 )
 
-ensures_laid : (claims : List ExprTree) → AllByRecursion SoundExpr claims → AllByRecursion SoundClause (ensures_clauses claims)
-unfolding words
-ensures_laid [] h = tt
-ensures_laid (claim ∷ claims) h = (
-  λ around last r m e. record {
-    end = kind.RightParen;
-    ends = refl;
-    laid = plain refl (laid.word refl refl) e (claim_list claim claims h (true ∷ around) kind.Ensures refl);
-  },
-  tt,
-)
-
 all_append : {A : Type 0} (P : A → Type 0) (xs ys : List A) → AllByRecursion P xs → AllByRecursion P ys → AllByRecursion P (xs ++ ys)
 all_append P [] ys h k = k
 all_append P (x ∷ xs) ys h k = (h.0, all_append P xs ys h.1 k)
-
-clauses_laid : (decl : MethodDeclTree) → SoundMethod decl → AllByRecursion SoundClause (clauses_of decl)
-clauses_laid decl h =
-    all_append SoundClause (requires_clauses decl.requires_ ++ modifies_clauses decl.modifies) (ensures_clauses decl.ensures_)
-    (all_append SoundClause (requires_clauses decl.requires_) (modifies_clauses decl.modifies) (requires_laid decl.requires_ h.requires_)
-    (modifies_laid decl.modifies h.modifies)) (ensures_laid decl.ensures_ h.ensures_)
 
 -- ---- bodies
 
@@ -208,25 +171,6 @@ contract_laid (clause ∷ clauses) h = (
       },
   tt,
 )
-
-part_of : (stmt : StmtTree) → SoundStmt stmt → SoundPart (stmt_part (stmt_account stmt))
-part_of stmt h = λ last gap at. stmt_laid stmt h 1 [] last gap at
-
-return_laid : (returned : Option ReturnTree) → SoundReturn returned → AllByRecursion SoundPart (return_parts returned)
-unfolding words
-return_laid None h = tt
-return_laid (Some returned) h = (
-  λ last gap at.
-      let m = expr_laid returned.value h (false ∷ []) kind.Return blank (enters_blank false kind.Return refl) in
-      record { end = m.end; ends = m.ends; laid = plain refl (laid.word refl refl) (at.starts kind.Return refl) m.laid },
-  tt,
-)
-
-parts_laid : (decl : MethodDeclTree) → SoundMethod decl → AllByRecursion SoundPart (parts_of decl)
-parts_laid decl h =
-    all_append SoundPart (contract_parts (clauses_of decl) ++ stmt_parts decl.body) (return_parts decl.returned)
-    (all_append SoundPart (contract_parts (clauses_of decl)) (stmt_parts decl.body) (contract_laid (clauses_of decl) (clauses_laid decl h))
-    (all_mapped SoundStmt SoundPart (λ stmt. stmt_part (stmt_account stmt)) part_of decl.body h.body)) (return_laid decl.returned h.returned)
 
 abbrev body_part : Option PartText → PartText → List Piece
 body_part before part = part_pieces (gap_before (line 1) (indent 1) before) part
@@ -313,70 +257,129 @@ method_rest params typed body a y b =
     (laid_append (laid_append a.laid (closing refl (laid.sign refl refl) a.closes y.laid))
     (plain refl (laid.sign refl refl) (fits_blank false y.end kind.Equals y.ends) (opening refl (laid.sign refl refl) refl b)))
 
-method_laid : (decl : MethodDeclTree) → SoundMethod decl → (last : TokenKind) (gap : Gap) → Declares last gap
-    → Ended [] last (method_pieces gap (method_account decl))
-unfolding words
-method_laid decl h last gap at =
-    let a = params_laid decl.params h.params [] in
-    let y = typed_laid decl.result h.result [] kind.RightParen refl in
-    record {
-      end = kind.RightBrace;
-      ends = refl;
-      laid = plain refl (laid.word refl refl) (at.starts kind.Def refl)
-          (plain refl (laid.name refl h.written) refl
-          (opening refl (laid.sign refl refl) refl
-          (method_rest (list_pieces kind.Comma (λ before param. param_pieces (gap_before none blank before) param) None (map param_account decl.params))
-          (typed_pieces (typed_account decl.result)) (list_pieces kind.Newline body_part None (parts_of decl)) a y (body_laid (parts_of decl)
-          (parts_laid decl h)))));
-    }
-
-decl_laid : (decl : DeclTree) → SoundDecl decl → (last : TokenKind) (gap : Gap) → Declares last gap → Ended [] last (decl_pieces gap (decl_account decl))
-unfolding words
-decl_laid (t.import_decl place []) h last gap at = absurd (omega (arith, h.0))
-decl_laid (t.import_decl place (name ∷ names)) h last gap at =
-    let m = path_laid names h.1.1 in
-    record {
-      end = m.end;
-      ends = m.ends;
-      laid = plain refl (laid.word refl refl) (at.starts kind.Import refl) (plain refl (laid.name refl h.1.0) refl m.laid);
-    }
-decl_laid (t.global_decl decl) h last gap at =
-    let y = optional_laid decl.ty h.1 [] in
-    let m = const_laid decl.init h.2 [] kind.Equals blank (enters_blank false kind.Equals refl) in
-    global_laid decl.fixed last gap nowhere _ at (λ k f. record {
-      end = m.end;
-      ends = m.ends;
-      laid = plain refl (laid.name refl h.0) f (laid_append y.laid (plain refl (laid.sign refl refl) (fits_blank false y.end kind.Equals y.ends) m.laid));
-    })
-decl_laid (t.record_decl decl) h last gap at =
-    let a = fields_laid decl.fields h.1 [] in
-    record {
-      end = kind.RightParen;
-      ends = refl;
-      laid = annotation (at.starts kind.At refl)
-          (plain refl (laid.name refl h.0) refl
-          (opening refl (laid.sign refl refl) refl (laid_append a.laid (closing refl (laid.sign refl refl) a.closes done))));
-    }
-decl_laid (t.method_decl decl) h last gap at = method_laid decl h last gap at
-
--- ---- files
-
 abbrev file_part : Option DeclText → DeclText → List Piece
 file_part before decl = decl_pieces (gap_between before decl) decl
 
-abbrev ended_decls : List DeclTree → List (DeclText × Place)
-ended_decls decls = map (λ decl. (decl_account decl, nowhere)) decls
+module _ (light : Bool) where
+  -- ---- what holds expressions
 
--- declarations behind another, with a newline behind each
-decls_laid : (before : DeclText) (decls : List DeclTree) → AllByRecursion SoundDecl decls
-    → Laid [] kind.Newline (listed_pieces kind.Newline file_part (Some before) (ended_decls decls) None) [] kind.Newline
-decls_laid before [] h = done
-decls_laid before (decl ∷ decls) h =
-    let m = decl_laid decl h.0 kind.Newline (gap_between (Some before) (decl_account decl)) (between before (decl_account decl)) in
-    laid_append m.laid (newline refl (ends_line m.end m.ends) (decls_laid (decl_account decl) decls h.1))
+  claim_list : (claim : ExprTree) (claims : List ExprTree) → AllByRecursion SoundExpr (claim ∷ claims) → (around : List Bool) (last : TokenKind)
+      → fits (inside around) last none kind.LeftParen ≡ true → Laid around last (claims_pieces (claims_text light (claim ∷ claims))) around kind.RightParen
+  claim_list claim claims h around last f =
+      opening refl (laid.sign refl refl) f
+      (close_paren nowhere (exprs_laid light (exprs_of (claim ∷ claims)) (list_sound (claim ∷ claims) h) tt around kind.LeftParen none blank (enters_paren true)
+      (enters_blank true kind.Comma refl)))
+
+  requires_laid : (claims : List ExprTree) → AllByRecursion SoundExpr claims → AllByRecursion SoundClause (requires_clauses light claims)
+  unfolding words
+  requires_laid [] h = tt
+  requires_laid (claim ∷ claims) h = (
+    λ around last r m e. record {
+      end = kind.RightParen;
+      ends = refl;
+      laid = plain refl (laid.word refl refl) r (claim_list claim claims h (true ∷ around) kind.Requires refl);
+    },
+    tt,
+  )
+
+  ensures_laid : (claims : List ExprTree) → AllByRecursion SoundExpr claims → AllByRecursion SoundClause (ensures_clauses light claims)
+  unfolding words
+  ensures_laid [] h = tt
+  ensures_laid (claim ∷ claims) h = (
+    λ around last r m e. record {
+      end = kind.RightParen;
+      ends = refl;
+      laid = plain refl (laid.word refl refl) e (claim_list claim claims h (true ∷ around) kind.Ensures refl);
+    },
+    tt,
+  )
+
+  clauses_laid : (decl : MethodDeclTree) → SoundMethod decl → AllByRecursion SoundClause (clauses_of light decl)
+  clauses_laid decl h =
+      all_append SoundClause (requires_clauses light decl.requires_ ++ modifies_clauses decl.modifies) (ensures_clauses light decl.ensures_)
+      (all_append SoundClause (requires_clauses light decl.requires_) (modifies_clauses decl.modifies) (requires_laid decl.requires_ h.requires_)
+      (modifies_laid decl.modifies h.modifies)) (ensures_laid decl.ensures_ h.ensures_)
+
+  part_of : (stmt : StmtTree) → SoundStmt stmt → SoundPart (stmt_part (stmt_account light stmt))
+  part_of stmt h = λ last gap at. stmt_laid light stmt h 1 [] last gap at
+
+  return_laid : (returned : Option ReturnTree) → SoundReturn returned → AllByRecursion SoundPart (return_parts light returned)
+  unfolding words
+  return_laid None h = tt
+  return_laid (Some returned) h = (
+    λ last gap at.
+        let m = expr_laid light returned.value h (false ∷ []) kind.Return blank (enters_blank false kind.Return refl) in
+        record { end = m.end; ends = m.ends; laid = plain refl (laid.word refl refl) (at.starts kind.Return refl) m.laid },
+    tt,
+  )
+
+  parts_laid : (decl : MethodDeclTree) → SoundMethod decl → AllByRecursion SoundPart (parts_of light decl)
+  parts_laid decl h =
+      all_append SoundPart (contract_parts (clauses_of light decl) ++ stmt_parts light decl.body) (return_parts light decl.returned)
+      (all_append SoundPart (contract_parts (clauses_of light decl)) (stmt_parts light decl.body) (contract_laid (clauses_of light decl) (clauses_laid decl h))
+      (all_mapped SoundStmt SoundPart (λ stmt. stmt_part (stmt_account light stmt)) part_of decl.body h.body)) (return_laid decl.returned h.returned)
+
+  method_laid : (decl : MethodDeclTree) → SoundMethod decl → (last : TokenKind) (gap : Gap) → Declares last gap
+      → Ended [] last (method_pieces gap (method_account light decl))
+  unfolding words
+  method_laid decl h last gap at =
+      let a = params_laid decl.params h.params [] in
+      let y = typed_laid decl.result h.result [] kind.RightParen refl in
+      record {
+        end = kind.RightBrace;
+        ends = refl;
+        laid = plain refl (laid.word refl refl) (at.starts kind.Def refl)
+            (plain refl (laid.name refl h.written) refl
+            (opening refl (laid.sign refl refl) refl
+            (method_rest (list_pieces kind.Comma (λ before param. param_pieces (gap_before none blank before) param) None (map param_account decl.params))
+            (typed_pieces (typed_account decl.result)) (list_pieces kind.Newline body_part None (parts_of light decl)) a y (body_laid (parts_of light decl)
+            (parts_laid decl h)))));
+      }
+
+  decl_laid : (decl : DeclTree) → SoundDecl decl → (last : TokenKind) (gap : Gap) → Declares last gap → Ended [] last (decl_pieces gap (decl_account light decl))
+  unfolding words
+  decl_laid (t.import_decl place []) h last gap at = absurd (omega (arith, h.0))
+  decl_laid (t.import_decl place (name ∷ names)) h last gap at =
+      let m = path_laid names h.1.1 in
+      record {
+        end = m.end;
+        ends = m.ends;
+        laid = plain refl (laid.word refl refl) (at.starts kind.Import refl) (plain refl (laid.name refl h.1.0) refl m.laid);
+      }
+  decl_laid (t.global_decl decl) h last gap at =
+      let y = optional_laid decl.ty h.1 [] in
+      let m = const_laid decl.init h.2 [] kind.Equals blank (enters_blank false kind.Equals refl) in
+      global_laid decl.fixed last gap nowhere _ at (λ k f. record {
+        end = m.end;
+        ends = m.ends;
+        laid = plain refl (laid.name refl h.0) f (laid_append y.laid (plain refl (laid.sign refl refl) (fits_blank false y.end kind.Equals y.ends) m.laid));
+      })
+  decl_laid (t.record_decl decl) h last gap at =
+      let a = fields_laid decl.fields h.1 [] in
+      record {
+        end = kind.RightParen;
+        ends = refl;
+        laid = annotation (at.starts kind.At refl)
+            (plain refl (laid.name refl h.0) refl
+            (opening refl (laid.sign refl refl) refl (laid_append a.laid (closing refl (laid.sign refl refl) a.closes done))));
+      }
+  decl_laid (t.method_decl decl) h last gap at = method_laid decl h last gap at
+
+  -- ---- files
+
+  abbrev ended_decls : List DeclTree → List (DeclText × Place)
+  ended_decls decls = map (λ decl. (decl_account light decl, nowhere)) decls
+
+  -- declarations behind another, with a newline behind each
+  decls_laid : (before : DeclText) (decls : List DeclTree) → AllByRecursion SoundDecl decls
+      → Laid [] kind.Newline (listed_pieces kind.Newline file_part (Some before) (ended_decls decls) None) [] kind.Newline
+  decls_laid before [] h = done
+  decls_laid before (decl ∷ decls) h =
+      let m = decl_laid decl h.0 kind.Newline (gap_between (Some before) (decl_account light decl)) (between before (decl_account light decl)) in
+      laid_append m.laid (newline refl (ends_line m.end m.ends) (decls_laid (decl_account light decl) decls h.1))
 
 pub printed_files_are_laid_out : PrintedFilesAreLaidOut
-printed_files_are_laid_out [] h = (kind.End, done)
-printed_files_are_laid_out (decl ∷ decls) h =
-    let m = decl_laid decl h.0 kind.End none at_beginning in
-    (kind.Newline, laid_append m.laid (newline refl (ends_line m.end m.ends) (decls_laid (decl_account decl) decls h.1)))
+printed_files_are_laid_out light [] h = (kind.End, done)
+printed_files_are_laid_out light (decl ∷ decls) h =
+    let m = decl_laid light decl h.0 kind.End none at_beginning in
+    (kind.Newline, laid_append m.laid (newline refl (ends_line m.end m.ends) (decls_laid light (decl_account light decl) decls h.1)))

@@ -22,7 +22,8 @@ use Rattle.slang_grammar.specs.Operators.{operators, prefix_level, whole_level}
 use Rattle.slang_grammar.specs.Expressions.{quantifier_kind, ExprText, level}
 use Rattle.print_expressions.specs.Bare.{nowhere, bare_name}
 use Rattle.print_expressions.specs.Operators.{row_of}
-use Rattle.print_expressions.specs.Accounts.{type_account, element_account, word_of, in_brackets_unless, is_operand, expr_account, exprs_account}
+use Rattle.print_expressions.specs.Hefts.{one, around as around_heft, followed, heft, peak_of}
+use Rattle.print_expressions.specs.Accounts.{type_account, element_account, word_of, in_brackets_unless, left_stays, right_stays, head_stays, first_stays, first_before, expr_account, exprs_account}
 use Rattle.print_expressions.proofs.Numerals.{numerals_read_back}
 use Rattle.print_layout.specs.Pieces.{Gap, none, blank, Piece}
 use Rattle.print_layout.specs.Expressions.{type_pieces, optional_element, bound_pieces, expr_pieces, exprs_pieces}
@@ -173,12 +174,6 @@ abbrev pub HasTree : ExprTrees → Type 0
 HasTree no_exprs = ⊥
 HasTree (expr_then tree trees) = Unit {0}
 
-pub arguments : (trees : ExprTrees) (around : List Bool) → (HasTree trees → Ended (true ∷ around) kind.LeftParen
-    (exprs_pieces none blank (exprs_account trees)))
-    → Arguments around (exprs_pieces none blank (exprs_account trees))
-arguments no_exprs around s = record { end = kind.LeftParen; closes = refl; laid = done }
-arguments (expr_then tree trees) around s = let m = s tt in record { end = m.end; closes = fits_paren true m.end m.ends; laid = m.laid }
-
 -- `(variable => body)`
 bound_laid : (n : Name) (body : ExprText) → IsNamed n → Stands body → (around : List Bool)
     → Laid around kind.RightParen (bound_pieces (record { left = nowhere; variable = bare_name n; arrow = nowhere; right = nowhere })
@@ -187,127 +182,135 @@ bound_laid n body h s around =
     let m = s (true ∷ around) kind.FatArrow blank (enters_blank true kind.FatArrow refl) in
     opening refl (laid.sign refl refl) refl (plain refl (laid.name refl h) refl (plain refl (laid.sign refl refl) refl (close_paren nowhere m)))
 
-mutual
-  unfolding words
+module _ (light : Bool) where
+  pub arguments : (trees : ExprTrees) (around : List Bool) → (HasTree trees → Ended (true ∷ around) kind.LeftParen
+      (exprs_pieces none blank (exprs_account light trees)))
+      → Arguments around (exprs_pieces none blank (exprs_account light trees))
+  arguments no_exprs around s = record { end = kind.LeftParen; closes = refl; laid = done }
+  arguments (expr_then tree trees) around s = let m = s tt in record { end = m.end; closes = fits_paren true m.end m.ends; laid = m.laid }
 
-  pub expr_laid : (tree : ExprTree) → SoundExpr tree → Stands (expr_account tree)
-  expr_laid (e.number place z) h around last gap at =
-      record { end = kind.Number; ends = refl; laid = plain refl (laid.number refl (numerals_read_back (nat_abs z) h).0) (at.starts kind.Number refl) done }
-  expr_laid (e.truth place) h around last gap at =
-      record { end = kind.True; ends = refl; laid = plain refl (laid.word refl refl) (at.starts kind.True refl) done }
-  expr_laid (e.falsity place) h around last gap at =
-      record { end = kind.False; ends = refl; laid = plain refl (laid.word refl refl) (at.starts kind.False refl) done }
-  expr_laid (e.name text place) h around last gap at =
-      record { end = kind.Name; ends = refl; laid = plain refl (laid.name refl h) (at.starts kind.Name refl) done }
-  expr_laid (e.result place ty) h around last gap at =
-      let t = element_laid ty h around kind.Res refl in
-      record { end = t.end; ends = t.ends refl; laid = plain refl (laid.word refl refl) (at.starts kind.Res refl) t.laid }
-  expr_laid (e.entry_value place written) h around last gap at = record {
-    end = kind.RightParen;
-    ends = refl;
-    laid = plain refl (laid.word refl refl) (at.starts kind.In refl)
-        (opening refl (laid.sign refl refl) refl (plain refl (laid.name refl h) refl (closing refl (laid.sign refl refl) refl done)));
-  }
-  expr_laid (e.old_value place written) h around last gap at = record {
-    end = kind.RightParen;
-    ends = refl;
-    laid = plain refl (laid.word refl refl) (at.starts kind.Old refl)
-        (opening refl (laid.sign refl refl) refl (plain refl (laid.name refl h) refl (closing refl (laid.sign refl refl) refl done)));
-  }
-  expr_laid (e.minus place operand) h around last gap at =
-      let inner = bracketed_stands (nat_le prefix_level (level (expr_account operand))) (expr_account operand) (expr_laid operand h) in
-      let m = inner around kind.Minus none (enters_minus (inside around)) in
-      record { end = m.end; ends = m.ends; laid = plain refl (laid.sign refl refl) (at.starts kind.Minus refl) m.laid }
-  expr_laid (e.negation place operand) h around last gap at =
-      let inner = bracketed_stands (nat_le prefix_level (level (expr_account operand))) (expr_account operand) (expr_laid operand h) in
-      let m = inner around kind.Bang none (enters_bang (inside around)) in
-      record { end = m.end; ends = m.ends; laid = plain refl (laid.sign refl refl) (at.starts kind.Bang refl) m.laid }
-  expr_laid (e.binary place operator left right) h around last gap at =
-      let row = row_of operator in
-      let facts = row_facts operator in
-      let l = bracketed_stands (is_operand Left (row_of operator) (expr_account left)) (expr_account left) (expr_laid left h.0) around last gap at in
-      let r = bracketed_stands (is_operand Right (row_of operator) (expr_account right)) (expr_account right) (expr_laid right h.1) around
-      (row_of operator).sign blank
-      (enters_blank (inside around) (row_of operator).sign facts.spaced) in
-      record {
-        end = r.end;
-        ends = r.ends;
-        laid = laid_append l.laid (plain facts.plain (laid.sign facts.sign refl) (fits_blank (inside around) l.end (row_of operator).sign l.ends) r.laid);
-      }
-  expr_laid (e.application place head args) h around last gap at =
-      let l = bracketed_stands (nat_eq (level (expr_account head)) whole_level) (expr_account head) (expr_laid head h.0) around last gap at in
-      let a = arguments args around (λ some. exprs_laid args h.1 some around kind.LeftParen none blank (enters_paren true)
-      (enters_blank true kind.Comma refl)) in
-      record {
-        end = kind.RightParen;
-        ends = refl;
-        laid = laid_append (laid_append l.laid (opening refl (laid.sign refl refl) (fits_open (inside around) l.end l.ends) a.laid))
-            (closing refl (laid.sign refl refl) a.closes done);
-      }
-  expr_laid (e.update place head index element) h around last gap at =
-      let l = bracketed_stands (nat_eq (level (expr_account head)) whole_level) (expr_account head) (expr_laid head h.0) around last gap at in
-      let i = expr_laid index h.1 (true ∷ around) kind.LeftParen none (enters_paren true) in
-      let m = expr_laid element h.2 (true ∷ around) kind.TildeArrow blank (enters_blank true kind.TildeArrow refl) in
-      record {
-        end = kind.RightParen;
-        ends = refl;
-        laid = laid_append (laid_append (laid_append l.laid (opening refl (laid.sign refl refl) (fits_open (inside around) l.end l.ends) i.laid))
-            (plain refl (laid.sign refl refl) (fits_blank true i.end kind.TildeArrow i.ends) m.laid))
-            (closing refl (laid.sign refl refl) (fits_paren true m.end m.ends) done);
-      }
-  expr_laid (e.field place head written) h around last gap at =
-      let l = bracketed_stands (nat_eq (level (expr_account head)) whole_level) (expr_account head) (expr_laid head h.0) around last gap at in
-      record {
-        end = kind.Name;
-        ends = refl;
-        laid = laid_append l.laid (plain refl (laid.sign refl refl) (fits_dot (inside around) l.end l.ends) (plain refl (laid.name refl h.1) refl done));
-      }
-  expr_laid (e.sequence place ty elements) h around last gap at =
-      let t = element_laid ty h.0 around kind.TypeIsz refl in
-      let a = arguments elements around (λ some. exprs_laid elements h.1 some around kind.LeftParen none blank (enters_paren true)
-      (enters_blank true kind.Comma refl)) in
-      record {
-        end = kind.RightParen;
-        ends = refl;
-        laid = plain refl (laid.word refl refl) (at.starts kind.TypeIsz refl)
-            (laid_append (laid_append t.laid (opening refl (laid.sign refl refl) (fits_open (inside around) t.end (t.ends refl)) a.laid))
-            (closing refl (laid.sign refl refl) a.closes done));
-      }
-  expr_laid (e.quantified place by low high named body) h around last gap at =
-      let w = quantifier_word by in
-      let l = expr_laid low h.0 (true ∷ around) kind.LeftParen none (enters_paren true) in
-      let u = expr_laid high h.1 (true ∷ around) kind.Until blank (enters_blank true kind.Until refl) in
-      record {
-        end = kind.RightParen;
-        ends = refl;
-        laid = plain w.plain (laid.word w.word refl) (at.starts (quantifier_kind (word_of by)) w.starts)
-            (opening refl (laid.sign refl refl) (w.opens (inside around))
-            (laid_append (laid_append l.laid (plain refl (laid.word refl refl) (fits_blank true l.end kind.Until l.ends) u.laid))
-            (closing refl (laid.sign refl refl) (fits_paren true u.end u.ends) (bound_laid named (expr_account body) h.2 (expr_laid body h.3) around))));
-      }
-  expr_laid (e.quantified_indices place by head named body) h around last gap at =
-      let w = quantifier_word by in
-      let l = bracketed_stands (nat_eq (level (expr_account head)) whole_level) (expr_account head) (expr_laid head h.0) (true ∷ around) kind.LeftParen none
-      (enters_paren true) in
-      record {
-        end = kind.RightParen;
-        ends = refl;
-        laid = plain w.plain (laid.word w.word refl) (at.starts (quantifier_kind (word_of by)) w.starts)
-            (opening refl (laid.sign refl refl) (w.opens (inside around))
-            (laid_append l.laid (plain refl (laid.sign refl refl) (fits_dot true l.end l.ends) (plain refl (laid.name refl indices_named) refl
-            (closing refl (laid.sign refl refl) refl (bound_laid named (expr_account body) h.1 (expr_laid body h.2) around))))));
-      }
+  mutual
+    unfolding words
 
-  -- behind a `(`, expressions parted by commas
-  pub exprs_laid : (trees : ExprTrees) → SoundExprs trees → HasTree trees → (around : List Bool) (last : TokenKind) (first next : Gap) → Enters true last first
-      → Enters true kind.Comma next → Ended (true ∷ around) last (exprs_pieces first next (exprs_account trees))
-  exprs_laid no_exprs h some around last first next at then = absurd some
-  exprs_laid (expr_then tree no_exprs) h some around last first next at then = expr_laid tree h.0 (true ∷ around) last first at
-  exprs_laid (expr_then tree (expr_then more trees)) h some around last first next at then =
-      let m = expr_laid tree h.0 (true ∷ around) last first at in
-      let r = exprs_laid (expr_then more trees) h.1 tt around kind.Comma next next then then in
-      record {
-        end = r.end;
-        ends = r.ends;
-        laid = laid_append m.laid (plain refl (laid.sign refl refl) (fits_comma true m.end m.ends) r.laid);
-      }
+    pub expr_laid : (tree : ExprTree) → SoundExpr tree → Stands (expr_account light tree)
+    expr_laid (e.number place z) h around last gap at =
+        record { end = kind.Number; ends = refl; laid = plain refl (laid.number refl (numerals_read_back (nat_abs z) h).0) (at.starts kind.Number refl) done }
+    expr_laid (e.truth place) h around last gap at =
+        record { end = kind.True; ends = refl; laid = plain refl (laid.word refl refl) (at.starts kind.True refl) done }
+    expr_laid (e.falsity place) h around last gap at =
+        record { end = kind.False; ends = refl; laid = plain refl (laid.word refl refl) (at.starts kind.False refl) done }
+    expr_laid (e.name text place) h around last gap at =
+        record { end = kind.Name; ends = refl; laid = plain refl (laid.name refl h) (at.starts kind.Name refl) done }
+    expr_laid (e.result place ty) h around last gap at =
+        let t = element_laid ty h around kind.Res refl in
+        record { end = t.end; ends = t.ends refl; laid = plain refl (laid.word refl refl) (at.starts kind.Res refl) t.laid }
+    expr_laid (e.entry_value place written) h around last gap at = record {
+      end = kind.RightParen;
+      ends = refl;
+      laid = plain refl (laid.word refl refl) (at.starts kind.In refl)
+          (opening refl (laid.sign refl refl) refl (plain refl (laid.name refl h) refl (closing refl (laid.sign refl refl) refl done)));
+    }
+    expr_laid (e.old_value place written) h around last gap at = record {
+      end = kind.RightParen;
+      ends = refl;
+      laid = plain refl (laid.word refl refl) (at.starts kind.Old refl)
+          (opening refl (laid.sign refl refl) refl (plain refl (laid.name refl h) refl (closing refl (laid.sign refl refl) refl done)));
+    }
+    expr_laid (e.minus place operand) h around last gap at =
+        let inner = bracketed_stands (nat_le prefix_level (level (expr_account light operand))) (expr_account light operand) (expr_laid operand h) in
+        let m = inner around kind.Minus none (enters_minus (inside around)) in
+        record { end = m.end; ends = m.ends; laid = plain refl (laid.sign refl refl) (at.starts kind.Minus refl) m.laid }
+    expr_laid (e.negation place operand) h around last gap at =
+        let inner = bracketed_stands (nat_le prefix_level (level (expr_account light operand))) (expr_account light operand) (expr_laid operand h) in
+        let m = inner around kind.Bang none (enters_bang (inside around)) in
+        record { end = m.end; ends = m.ends; laid = plain refl (laid.sign refl refl) (at.starts kind.Bang refl) m.laid }
+    expr_laid (e.binary place operator left right) h around last gap at =
+        let row = row_of operator in
+        let facts = row_facts operator in
+        let l = bracketed_stands (left_stays light (row_of operator) (expr_account light left) (expr_account light right)) (expr_account light left) (expr_laid left h.0) around last gap at in
+        let r = bracketed_stands (right_stays light (row_of operator) (expr_account light left) (expr_account light right)) (expr_account light right) (expr_laid right h.1) around
+        (row_of operator).sign blank
+        (enters_blank (inside around) (row_of operator).sign facts.spaced) in
+        record {
+          end = r.end;
+          ends = r.ends;
+          laid = laid_append l.laid (plain facts.plain (laid.sign facts.sign refl) (fits_blank (inside around) l.end (row_of operator).sign l.ends) r.laid);
+        }
+    expr_laid (e.application place head args) h around last gap at =
+        let l = bracketed_stands (head_stays light (expr_account light head) (around_heft (peak_of (exprs_account light args)))) (expr_account light head) (expr_laid head h.0) around last gap at in
+        let a = arguments args around (λ some. exprs_laid args h.1 some around kind.LeftParen none blank (enters_paren true)
+        (enters_blank true kind.Comma refl)) in
+        record {
+          end = kind.RightParen;
+          ends = refl;
+          laid = laid_append (laid_append l.laid (opening refl (laid.sign refl refl) (fits_open (inside around) l.end l.ends) a.laid))
+              (closing refl (laid.sign refl refl) a.closes done);
+        }
+    expr_laid (e.update place head index element) h around last gap at =
+        let l = bracketed_stands (head_stays light (expr_account light head)
+        (around_heft (followed (heft (first_before light (expr_account light index) (expr_account light element))) (heft (expr_account light element))).peak)) (expr_account light head) (expr_laid head h.0) around last gap at in
+        let i = bracketed_stands (first_stays light (expr_account light index) (expr_account light element)) (expr_account light index) (expr_laid index h.1) (true ∷ around) kind.LeftParen none (enters_paren true) in
+        let m = expr_laid element h.2 (true ∷ around) kind.TildeArrow blank (enters_blank true kind.TildeArrow refl) in
+        record {
+          end = kind.RightParen;
+          ends = refl;
+          laid = laid_append (laid_append (laid_append l.laid (opening refl (laid.sign refl refl) (fits_open (inside around) l.end l.ends) i.laid))
+              (plain refl (laid.sign refl refl) (fits_blank true i.end kind.TildeArrow i.ends) m.laid))
+              (closing refl (laid.sign refl refl) (fits_paren true m.end m.ends) done);
+        }
+    expr_laid (e.field place head written) h around last gap at =
+        let l = bracketed_stands (head_stays light (expr_account light head) one) (expr_account light head) (expr_laid head h.0) around last gap at in
+        record {
+          end = kind.Name;
+          ends = refl;
+          laid = laid_append l.laid (plain refl (laid.sign refl refl) (fits_dot (inside around) l.end l.ends) (plain refl (laid.name refl h.1) refl done));
+        }
+    expr_laid (e.sequence place ty elements) h around last gap at =
+        let t = element_laid ty h.0 around kind.TypeIsz refl in
+        let a = arguments elements around (λ some. exprs_laid elements h.1 some around kind.LeftParen none blank (enters_paren true)
+        (enters_blank true kind.Comma refl)) in
+        record {
+          end = kind.RightParen;
+          ends = refl;
+          laid = plain refl (laid.word refl refl) (at.starts kind.TypeIsz refl)
+              (laid_append (laid_append t.laid (opening refl (laid.sign refl refl) (fits_open (inside around) t.end (t.ends refl)) a.laid))
+              (closing refl (laid.sign refl refl) a.closes done));
+        }
+    expr_laid (e.quantified place by low high named body) h around last gap at =
+        let w = quantifier_word by in
+        let l = bracketed_stands (first_stays light (expr_account light low) (expr_account light high)) (expr_account light low) (expr_laid low h.0) (true ∷ around) kind.LeftParen none (enters_paren true) in
+        let u = expr_laid high h.1 (true ∷ around) kind.Until blank (enters_blank true kind.Until refl) in
+        record {
+          end = kind.RightParen;
+          ends = refl;
+          laid = plain w.plain (laid.word w.word refl) (at.starts (quantifier_kind (word_of by)) w.starts)
+              (opening refl (laid.sign refl refl) (w.opens (inside around))
+              (laid_append (laid_append l.laid (plain refl (laid.word refl refl) (fits_blank true l.end kind.Until l.ends) u.laid))
+              (closing refl (laid.sign refl refl) (fits_paren true u.end u.ends) (bound_laid named (expr_account light body) h.2 (expr_laid body h.3) around))));
+        }
+    expr_laid (e.quantified_indices place by head named body) h around last gap at =
+        let w = quantifier_word by in
+        let l = bracketed_stands (nat_eq (level (expr_account light head)) whole_level) (expr_account light head) (expr_laid head h.0) (true ∷ around) kind.LeftParen none
+        (enters_paren true) in
+        record {
+          end = kind.RightParen;
+          ends = refl;
+          laid = plain w.plain (laid.word w.word refl) (at.starts (quantifier_kind (word_of by)) w.starts)
+              (opening refl (laid.sign refl refl) (w.opens (inside around))
+              (laid_append l.laid (plain refl (laid.sign refl refl) (fits_dot true l.end l.ends) (plain refl (laid.name refl indices_named) refl
+              (closing refl (laid.sign refl refl) refl (bound_laid named (expr_account light body) h.1 (expr_laid body h.2) around))))));
+        }
+
+    -- behind a `(`, expressions parted by commas
+    pub exprs_laid : (trees : ExprTrees) → SoundExprs trees → HasTree trees → (around : List Bool) (last : TokenKind) (first next : Gap) → Enters true last first
+        → Enters true kind.Comma next → Ended (true ∷ around) last (exprs_pieces first next (exprs_account light trees))
+    exprs_laid no_exprs h some around last first next at then = absurd some
+    exprs_laid (expr_then tree no_exprs) h some around last first next at then = expr_laid tree h.0 (true ∷ around) last first at
+    exprs_laid (expr_then tree (expr_then more trees)) h some around last first next at then =
+        let m = expr_laid tree h.0 (true ∷ around) last first at in
+        let r = exprs_laid (expr_then more trees) h.1 tt around kind.Comma next next then then in
+        record {
+          end = r.end;
+          ends = r.ends;
+          laid = laid_append m.laid (plain refl (laid.sign refl refl) (fits_comma true m.end m.ends) r.laid);
+        }

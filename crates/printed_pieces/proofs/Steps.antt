@@ -66,20 +66,6 @@ cites_laid (l ∷ labels) h around last e f =
       laid = opening refl (laid.sign refl refl) f (laid_append a.laid (closing refl (laid.sign refl refl) a.closes done));
     }
 
--- ---- assumptions
-
-assume_laid : (depth : ℕ) (assumed : Label) (given : ExprTree) → SoundLabel assumed → SoundExpr given → (around : List Bool) (last : TokenKind)
-    → fits (inside around) last blank kind.SubProof ≡ true → Laid around last (assume_pieces depth blank (assume_account assumed given))
-    (true ∷ around) kind.RightParen
-unfolding words
-assume_laid depth assumed given h k around last f =
-    let m = expr_laid given k (true ∷ true ∷ around) kind.LeftParen none (enters_paren true) in
-    plain refl (laid.word refl refl) f
-    (opening refl (laid.sign refl refl) refl
-    (plain refl (label_spelled assumed h) refl
-    (plain refl (laid.word refl refl) refl
-    (opening refl (laid.sign refl refl) refl (laid_append m.laid (closing refl (laid.sign refl refl) (fits_paren true m.end m.ends) done))))))
-
 let_laid : (variable : Name) → IsNamed variable → (around : List Bool) → Laid (true ∷ around) kind.Number (let_pieces (let_account variable))
     (true ∷ true ∷ around) kind.FatArrow
 unfolding words
@@ -91,73 +77,88 @@ let_laid variable h around =
     (plain refl (laid.sign refl refl) refl
     (plain refl (laid.word refl refl) refl (closing refl (laid.sign refl refl) refl (plain refl (laid.sign refl refl) refl done)))))))
 
--- ---- steps
-
 abbrev pub HasStep : StepTrees → Type 0
 HasStep no_steps = ⊥
 HasStep (step_then step steps) = Unit {0}
 
--- behind an assumption
-behind_laid : (depth : ℕ) (steps : StepTrees) (around : List Bool) → (HasStep steps → StepEnd around kind.Comma (steps_pieces depth (steps_account steps)))
-    → StepEnd around kind.RightParen (behind_pieces depth (as_behind (steps_account steps)))
-behind_laid depth no_steps around s = record { end = kind.RightParen; ends = refl; laid = done }
-behind_laid depth (step_then step no_steps) around s =
-    let m = s tt in record { end = m.end; ends = m.ends; laid = plain refl (laid.sign refl refl) refl m.laid }
-behind_laid depth (step_then step (step_then more steps)) around s =
-    let m = s tt in record { end = m.end; ends = m.ends; laid = plain refl (laid.sign refl refl) refl m.laid }
+module _ (light : Bool) where
+  -- ---- assumptions
 
-mutual
+  assume_laid : (depth : ℕ) (assumed : Label) (given : ExprTree) → SoundLabel assumed → SoundExpr given → (around : List Bool) (last : TokenKind)
+      → fits (inside around) last blank kind.SubProof ≡ true → Laid around last (assume_pieces depth blank (assume_account light assumed given))
+      (true ∷ around) kind.RightParen
   unfolding words
+  assume_laid depth assumed given h k around last f =
+      let m = expr_laid light given k (true ∷ true ∷ around) kind.LeftParen none (enters_paren true) in
+      plain refl (laid.word refl refl) f
+      (opening refl (laid.sign refl refl) refl
+      (plain refl (label_spelled assumed h) refl
+      (plain refl (laid.word refl refl) refl
+      (opening refl (laid.sign refl refl) refl (laid_append m.laid (closing refl (laid.sign refl refl) (fits_paren true m.end m.ends) done))))))
 
-  step_laid : (step : StepTree) → SoundStep step → (depth : ℕ) (around : List Bool) (last : TokenKind) → fits true last (pieces.line depth) kind.Number ≡ true
-      → StepEnd around last (step_pieces depth (step_account step))
-  step_laid (t.line label claim rule cites) h depth around last f =
-      let m = expr_laid claim h.1 (true ∷ true ∷ around) kind.LeftParen none (enters_paren true) in
-      let r = rule_is rule h.2 in
-      let c = cites_laid cites h.3 around (rule_token (rule_account rule)).kind r.ends r.opens in
-      record {
-        end = c.end;
-        ends = c.ends;
-        laid = plain refl (label_spelled label h.0) f
-            (opening refl (laid.sign refl refl) refl
-            (laid_append m.laid (closing refl (laid.sign refl refl) (fits_paren true m.end m.ends)
-            (plain refl (laid.word refl refl) refl (plain r.plain r.spelled refl c.laid)))));
-      }
-  step_laid (t.block label assumed given steps) h depth around last f =
-      let a = assume_laid depth assumed given h.1 h.2 (true ∷ around) kind.Number refl in
-      let b = behind_laid (suc depth) steps (true ∷ around) (λ some. steps_laid steps h.3 some (suc depth) (true ∷ around) kind.Comma refl) in
-      record {
-        end = kind.RightParen;
-        ends = refl;
-        laid = plain refl (label_spelled label h.0) f
-            (laid_append (laid_append a b.laid) (closing refl (laid.sign refl refl) (step_paren b.end depth b.ends) done));
-      }
-  step_laid (t.let_block label variable assumed given steps) h depth around last f =
-      let l = let_laid variable h.1 around in
-      let a = assume_laid depth assumed given h.2 h.3 (true ∷ true ∷ around) kind.FatArrow refl in
-      let b = behind_laid (suc depth) steps (true ∷ true ∷ around) (λ some. steps_laid steps h.4 some (suc depth) (true ∷ true ∷ around) kind.Comma refl) in
-      record {
-        end = kind.RightParen;
-        ends = refl;
-        laid = plain refl (label_spelled label h.0) f
-            (laid_append (laid_append (laid_append l a) b.laid)
-            (closing refl (laid.sign refl refl) (step_paren b.end depth b.ends) (closing refl (laid.sign refl refl) refl done)));
-      }
+  -- ---- steps
 
-  steps_laid : (steps : StepTrees) → SoundSteps steps → HasStep steps → (depth : ℕ) (around : List Bool) (last : TokenKind)
-      → fits true last (pieces.line depth) kind.Number ≡ true → StepEnd around last (steps_pieces depth (steps_account steps))
-  steps_laid no_steps h some depth around last f = absurd some
-  steps_laid (step_then step no_steps) h some depth around last f = step_laid step h.0 depth around last f
-  steps_laid (step_then step (step_then more steps)) h some depth around last f =
-      let m = step_laid step h.0 depth around last f in
-      let r = steps_laid (step_then more steps) h.1 tt depth around kind.Comma refl in
-      record { end = r.end; ends = r.ends; laid = laid_append m.laid (plain refl (laid.sign refl refl) (step_comma m.end m.ends) r.laid) }
+  -- behind an assumption
+  behind_laid : (depth : ℕ) (steps : StepTrees) (around : List Bool) → (HasStep steps → StepEnd around kind.Comma (steps_pieces depth (steps_account light steps)))
+      → StepEnd around kind.RightParen (behind_pieces depth (as_behind (steps_account light steps)))
+  behind_laid depth no_steps around s = record { end = kind.RightParen; ends = refl; laid = done }
+  behind_laid depth (step_then step no_steps) around s =
+      let m = s tt in record { end = m.end; ends = m.ends; laid = plain refl (laid.sign refl refl) refl m.laid }
+  behind_laid depth (step_then step (step_then more steps)) around s =
+      let m = s tt in record { end = m.end; ends = m.ends; laid = plain refl (laid.sign refl refl) refl m.laid }
 
--- all steps of a `Deduce`, up to its last bracket
-pub proof_laid : (steps : StepTrees) → SoundSteps steps → (depth : ℕ) (around : List Bool)
-    → Laid (true ∷ around) kind.LeftParen (steps_pieces (suc depth) (steps_account steps) ++ pieces.mark
-    (pieces.line depth) kind.RightParen nowhere ∷ []) around kind.RightParen
-proof_laid no_steps h depth around = closing refl (laid.sign refl refl) refl done
-proof_laid (step_then step steps) h depth around =
-    let m = steps_laid (step_then step steps) h tt (suc depth) around kind.LeftParen refl in
-    laid_append m.laid (closing refl (laid.sign refl refl) (step_paren m.end depth m.ends) done)
+  mutual
+    unfolding words
+
+    step_laid : (step : StepTree) → SoundStep step → (depth : ℕ) (around : List Bool) (last : TokenKind) → fits true last (pieces.line depth) kind.Number ≡ true
+        → StepEnd around last (step_pieces depth (step_account light step))
+    step_laid (t.line label claim rule cites) h depth around last f =
+        let m = expr_laid light claim h.1 (true ∷ true ∷ around) kind.LeftParen none (enters_paren true) in
+        let r = rule_is rule h.2 in
+        let c = cites_laid cites h.3 around (rule_token (rule_account rule)).kind r.ends r.opens in
+        record {
+          end = c.end;
+          ends = c.ends;
+          laid = plain refl (label_spelled label h.0) f
+              (opening refl (laid.sign refl refl) refl
+              (laid_append m.laid (closing refl (laid.sign refl refl) (fits_paren true m.end m.ends)
+              (plain refl (laid.word refl refl) refl (plain r.plain r.spelled refl c.laid)))));
+        }
+    step_laid (t.block label assumed given steps) h depth around last f =
+        let a = assume_laid depth assumed given h.1 h.2 (true ∷ around) kind.Number refl in
+        let b = behind_laid (suc depth) steps (true ∷ around) (λ some. steps_laid steps h.3 some (suc depth) (true ∷ around) kind.Comma refl) in
+        record {
+          end = kind.RightParen;
+          ends = refl;
+          laid = plain refl (label_spelled label h.0) f
+              (laid_append (laid_append a b.laid) (closing refl (laid.sign refl refl) (step_paren b.end depth b.ends) done));
+        }
+    step_laid (t.let_block label variable assumed given steps) h depth around last f =
+        let l = let_laid variable h.1 around in
+        let a = assume_laid depth assumed given h.2 h.3 (true ∷ true ∷ around) kind.FatArrow refl in
+        let b = behind_laid (suc depth) steps (true ∷ true ∷ around) (λ some. steps_laid steps h.4 some (suc depth) (true ∷ true ∷ around) kind.Comma refl) in
+        record {
+          end = kind.RightParen;
+          ends = refl;
+          laid = plain refl (label_spelled label h.0) f
+              (laid_append (laid_append (laid_append l a) b.laid)
+              (closing refl (laid.sign refl refl) (step_paren b.end depth b.ends) (closing refl (laid.sign refl refl) refl done)));
+        }
+
+    steps_laid : (steps : StepTrees) → SoundSteps steps → HasStep steps → (depth : ℕ) (around : List Bool) (last : TokenKind)
+        → fits true last (pieces.line depth) kind.Number ≡ true → StepEnd around last (steps_pieces depth (steps_account light steps))
+    steps_laid no_steps h some depth around last f = absurd some
+    steps_laid (step_then step no_steps) h some depth around last f = step_laid step h.0 depth around last f
+    steps_laid (step_then step (step_then more steps)) h some depth around last f =
+        let m = step_laid step h.0 depth around last f in
+        let r = steps_laid (step_then more steps) h.1 tt depth around kind.Comma refl in
+        record { end = r.end; ends = r.ends; laid = laid_append m.laid (plain refl (laid.sign refl refl) (step_comma m.end m.ends) r.laid) }
+
+  -- all steps of a `Deduce`, up to its last bracket
+  pub proof_laid : (steps : StepTrees) → SoundSteps steps → (depth : ℕ) (around : List Bool)
+      → Laid (true ∷ around) kind.LeftParen (steps_pieces (suc depth) (steps_account light steps) ++ pieces.mark
+      (pieces.line depth) kind.RightParen nowhere ∷ []) around kind.RightParen
+  proof_laid no_steps h depth around = closing refl (laid.sign refl refl) refl done
+  proof_laid (step_then step steps) h depth around =
+      let m = steps_laid (step_then step steps) h tt (suc depth) around kind.LeftParen refl in
+      laid_append m.laid (closing refl (laid.sign refl refl) (step_paren m.end depth m.ends) done)

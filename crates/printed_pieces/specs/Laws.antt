@@ -1,5 +1,5 @@
 -- What holds of the pieces of printed files, as one statement.
-use Rattle.std.specs.Prelude.{List, []}
+use Rattle.std.specs.Prelude.{Bool, List, []}
 use Rattle.std.specs.List.{AllByRecursion}
 use Rattle.slang_lexer.specs.declared.token.TokenKind.{TokenKind}
 use Rattle.slang_lexer.specs.declared.token.TokenKind.TheVariants as kind
@@ -10,5 +10,6 @@ use Rattle.sound_trees.specs.Sound.{SoundDecl}
 use Rattle.laid_tokens.specs.Laid.{Laid}
 
 abbrev pub PrintedFilesAreLaidOut : Type 0
-PrintedFilesAreLaidOut = (decls : List DeclTree) → AllByRecursion SoundDecl decls → (last : TokenKind) × Laid [] kind.End
-    (file_pieces (file_account decls)) [] last
+PrintedFilesAreLaidOut =
+    (light : Bool) (decls : List DeclTree) → AllByRecursion SoundDecl decls
+    → (last : TokenKind) × Laid [] kind.End (file_pieces (file_account light decls)) [] last

@@ -1,9 +1,13 @@
 -- What printing gives to a sink.
-use Rattle.std.specs.Prelude.{ℕ, ◌≤◌, List, take, length, Option, Some, None, Result, Ok, Err}
+use Rattle.std.specs.Prelude.{◌≡◌, ℕ, ◌<◌, ◌≤◌, nat_eq, Bool, true, false, List, take, length, Option, Some, None, Result, Ok, Err}
 use Rattle.lk_io.specs.Sink.{SinkRun, Appends, IsQuiet, IsCounted}
 use Rattle.lk_io.specs.declared.sinks.SinkEnd.TheVariants.{Failed}
+use Rattle.slang_tree.specs.DeclTree.{DeclTree}
+use Rattle.slang_tokens.specs.declared.read.TokensEnd.{TokensEnd}
+use Rattle.slang_tokens.specs.declared.read.TokensEnd.TheVariants.{End, Fault}
 use Rattle.slang_grammar.specs.Declarations.{DeclText, import_text, global_text, record_text, method_text}
 use Rattle.print_layout.specs.Pieces.{Gap, none, indent, line}
+use Rattle.print_tokens.specs.Printed.{NestsTooDeep, IsPrinted}
 use Rattle.slang_print.specs.declared.files.Before.{Before}
 use Rattle.slang_print.specs.declared.files.Before.TheVariants as b
 use Rattle.slang_print.specs.declared.PrintEnd.{PrintEnd}
@@ -24,24 +28,40 @@ gap_of b.Import b.Import = indent 0
 gap_of b.Global b.Global = indent 0
 gap_of before kind = line 0
 
--- the whole text was given
-pub record PrintsWhole (run : SinkRun) (text : List ℕ) : Type 0 where
+-- where the tokens of a text end is a token that nests too deep
+abbrev pub ends_deep : TokensEnd → Bool
+ends_deep (End place) = false
+ends_deep (Fault end) = nat_eq end.code 5
+
+-- whether these bytes are a text that nests too deep
+pub record Tells (deep : Bool) (bytes : List ℕ) : Type 0 where
+  pub is_deep : deep ≡ true → NestsTooDeep bytes
+  pub is_shallow : deep ≡ false → NestsTooDeep bytes → ⊥
+
+-- the whole of what is printed was given
+pub record PrintsWhole (run : SinkRun) (decls : List DeclTree) : Type 0 where
+  pub text : List ℕ
+  pub printed : IsPrinted decls text
   pub adds : Appends run text
   pub quiet : IsQuiet run
 
 -- so many bytes of it were given, and then the sink failed
-pub record PrintsFront (run : SinkRun) (text : List ℕ) (out : ℕ) : Type 0 where
+pub record PrintsFront (run : SinkRun) (decls : List DeclTree) (out : ℕ) : Type 0 where
+  pub text : List ℕ
+  pub printed : IsPrinted decls text
   pub front : out ≤ length text
   pub adds : Appends run (take out text)
   pub cause : IsCounted run Failed
 
--- some front of it was given
-pub record PrintsSome (run : SinkRun) (text : List ℕ) : Type 0 where
+-- nothing was given, or some front of it
+pub record PrintsSome (run : SinkRun) (decls : List DeclTree) : Type 0 where
+  pub text : List ℕ
   pub out : ℕ
+  pub printed : 0 < out → IsPrinted decls text
   pub front : out ≤ length text
   pub adds : Appends run (take out text)
 
-abbrev pub Prints : SinkRun → List ℕ → Result (Unit {0}) PrintEnd → Type 0
-Prints run text (Ok _) = PrintsWhole run text
-Prints run text (Err (WriteFault out)) = PrintsFront run text out
-Prints run text (Err NoMemory) = PrintsSome run text
+abbrev pub Prints : SinkRun → List DeclTree → Result (Unit {0}) PrintEnd → Type 0
+Prints run decls (Ok _) = PrintsWhole run decls
+Prints run decls (Err (WriteFault out)) = PrintsFront run decls out
+Prints run decls (Err NoMemory) = PrintsSome run decls

@@ -8,11 +8,11 @@ ghost use Rattle.lk_io.specs.Run.{run};
 ghost use Rattle.slang_tree.specs.DeclTree.{DeclTree, file_tree};
 ghost use Rattle.slang_grammar.specs.Texts.{Reads};
 ghost use Rattle.print_declarations.specs.Bare.{bare_file};
-ghost use Rattle.print_layout.specs.Declarations.{file_bytes};
-ghost use Rattle.print_tokens.specs.Laws.{IsPrintedLight, ReadsBack};
+ghost use Rattle.print_tokens.specs.Printed.{IsPrinted};
+ghost use Rattle.print_tokens.specs.Laws.{ReadsBack};
 ghost use Rattle.slang_print.specs.Printed.{Prints};
 
-use files::add_file;
+use files::write_file;
 use lk_io::{GiveEnd, Sink, give_all};
 use slang_tree::File;
 use std::alloc::{AllocError, Global};
@@ -39,18 +39,19 @@ impl From<AllocError> for PrintEnd {
     }
 }
 
-/// Gives a text of the declarations to a sink, two blanks a level and with brackets only where they are needed. What
-/// was given is a front of that text, and the whole of it on `Ok`.
+/// Gives a text of the declarations to a sink, two blanks a level. It has brackets only where they are needed, but where
+/// it would nest too deep so, it has them also where they make it nest less deep. What was given is a front of that
+/// text, and the whole of it on `Ok`.
 ///
 /// Where the declarations are, but for their places, those of some bytes, the text is read with the same declarations,
-/// but for their places, if it nests no deeper than a text may.
+/// but for their places.
 pub fn print_file<S: Sink>(alloc: Global, file: &File, out: &mut S) -> Result<(), PrintEnd>
-    ensures given { Prints (run (S.state out.old) (S.state out.new)) (file_bytes (file_tree file.now)) result }
+    ensures given { Prints (run (S.state out.old) (S.state out.new)) (file_tree file.now) result }
     ensures reads_back { (bytes : List ℕ) (read : List DeclTree) → Reads bytes read → bare_file (file_tree file.now) ≡ bare_file read →
-        IsPrintedLight (file_tree file.now) → ReadsBack (file_bytes (file_tree file.now)) (file_tree file.now) }
+        (printed : List ℕ) → IsPrinted (file_tree file.now) printed → ReadsBack printed (file_tree file.now) }
 {
     let mut text = Vec::new(alloc);
-    add_file(file.items.as_slice(), &mut text)?;
+    write_file(alloc, file.items.as_slice(), &mut text)?;
     match give_all(out, text.as_slice()) {
         Ok(()) => Ok(()),
         Err(GiveEnd::Failed { out: given }) => Err(PrintEnd::WriteFault { out: given as u64 }),

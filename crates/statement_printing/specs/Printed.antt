@@ -37,14 +37,15 @@ declared_pieces gap fixed name ty =
     (mark gap (value_word fixed) nowhere ∷ piece blank (name_token (bare_name name)) ∷ optional_typed (option_map typed_account (option_map type_tree ty)))
     ++ mark blank kind.Equals nowhere ∷ []
 
--- in round brackets
-abbrev pub enclosed_pieces : Gap → Expr → List Piece
-enclosed_pieces gap expr = (mark gap kind.LeftParen nowhere ∷ expr_pieces none (expr_account (expr_tree expr))) ++ mark none kind.RightParen nowhere ∷ []
+module _ (light : Bool) where
+  -- in round brackets
+  abbrev pub enclosed_pieces : Gap → Expr → List Piece
+  enclosed_pieces gap expr = (mark gap kind.LeftParen nowhere ∷ expr_pieces none (expr_account light (expr_tree expr))) ++ mark none kind.RightParen nowhere ∷ []
 
-abbrev pub deduction_pieces : ℕ → Gap → List Step → List Piece
-deduction_pieces depth gap steps =
-    (mark gap kind.Deduce nowhere ∷ mark none kind.LeftParen nowhere ∷ steps_pieces (suc depth) (steps_account (steps_of (map step_tree steps))))
-    ++ mark (pieces.line depth) kind.RightParen nowhere ∷ []
+  abbrev pub deduction_pieces : ℕ → Gap → List Step → List Piece
+  deduction_pieces depth gap steps =
+      (mark gap kind.Deduce nowhere ∷ mark none kind.LeftParen nowhere ∷ steps_pieces (suc depth) (steps_account light (steps_of (map step_tree steps))))
+      ++ mark (pieces.line depth) kind.RightParen nowhere ∷ []
 
 abbrev pub is_branch : StmtTree → Bool
 is_branch (t.branch place test then otherwise) = true
@@ -54,23 +55,24 @@ abbrev pub only_branch : List Stmt → Bool
 only_branch (stmt ∷ []) = is_branch (stmt_tree stmt)
 only_branch _ = false
 
--- each at the beginning of a line: a newline that is a token and one that is none are one byte
-abbrev pub stmt_lines : ℕ → List Stmt → List Piece
-stmt_lines depth [] = []
-stmt_lines depth (stmt ∷ stmts) = stmt_pieces depth (pieces.line depth) (stmt_account (stmt_tree stmt)) ++ stmt_lines depth stmts
+module _ (light : Bool) where
+  -- each at the beginning of a line: a newline that is a token and one that is none are one byte
+  abbrev pub stmt_lines : ℕ → List Stmt → List Piece
+  stmt_lines depth [] = []
+  stmt_lines depth (stmt ∷ stmts) = stmt_pieces depth (pieces.line depth) (stmt_account light (stmt_tree stmt)) ++ stmt_lines depth stmts
 
-abbrev pub braced_pieces : ℕ → List Stmt → List Piece
-braced_pieces depth stmts = block_pieces depth (s.block nowhere (stmts_account (stmts_of (map stmt_tree stmts))) nowhere)
+  abbrev pub braced_pieces : ℕ → List Stmt → List Piece
+  braced_pieces depth stmts = block_pieces depth (s.block nowhere (stmts_account light (stmts_of (map stmt_tree stmts))) nowhere)
 
-abbrev pub otherwise_pieces : ℕ → Option (List Stmt) → List Piece
-otherwise_pieces depth stmts = else_pieces depth (else_account (else_of (option_map (map stmt_tree) stmts)))
+  abbrev pub otherwise_pieces : ℕ → Option (List Stmt) → List Piece
+  otherwise_pieces depth stmts = else_pieces depth (else_account light (else_of (option_map (map stmt_tree) stmts)))
 
--- `else` and what stands behind it
-abbrev pub else_of_pieces : ℕ → List Stmt → List Piece
-else_of_pieces depth stmts = else_pieces depth (as_else (stmts_account (stmts_of (map stmt_tree stmts))))
+  -- `else` and what stands behind it
+  abbrev pub else_of_pieces : ℕ → List Stmt → List Piece
+  else_of_pieces depth stmts = else_pieces depth (as_else (stmts_account light (stmts_of (map stmt_tree stmts))))
 
-abbrev pub loop_of : ℕ → List Name → List Expr → List Stmt → List Piece
-loop_of depth modifies claims body =
-    ((mark blank kind.LeftBrace nowhere ∷ invariant_pieces (suc depth) (invariant_account modifies (map expr_tree claims)))
-    ++ loop_pieces (suc depth) (as_body (stmts_account (stmts_of (map stmt_tree body)))))
-    ++ mark (pieces.line depth) kind.RightBrace nowhere ∷ []
+  abbrev pub loop_of : ℕ → List Name → List Expr → List Stmt → List Piece
+  loop_of depth modifies claims body =
+      ((mark blank kind.LeftBrace nowhere ∷ invariant_pieces (suc depth) (invariant_account light modifies (map expr_tree claims)))
+      ++ loop_pieces (suc depth) (as_body (stmts_account light (stmts_of (map stmt_tree body)))))
+      ++ mark (pieces.line depth) kind.RightBrace nowhere ∷ []

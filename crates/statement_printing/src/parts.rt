@@ -93,23 +93,28 @@ pub fn add_declared(
 }
 
 /// Adds an expression in round brackets behind a gap.
-pub(crate) fn add_enclosed(expr: &Expr, gap: Gap, text: &mut Vec<u8>) -> Result<(), NoMemory>
-    ensures { OnOk result (Adds text.old.items text.new.items (enclosed_pieces (gap_seen gap) expr.now)) }
+pub(crate) fn add_enclosed(
+    expr: &Expr,
+    gap: Gap,
+    light: bool,
+    text: &mut Vec<u8>,
+) -> Result<(), NoMemory>
+    ensures { OnOk result (Adds text.old.items text.new.items (enclosed_pieces light (gap_seen gap) expr.now)) }
 {
     add_word(gap, "(", text)?;
-    add_expr(expr, Gap::None, text)?;
+    add_expr(expr, Gap::None, light, text)?;
     add_text(")", text)
 }
 
 /// Adds claims, each on a line of its own, where there are some.
-fn add_claims(claims: &[Expr], depth: u32, text: &mut Vec<u8>) -> Result<(), NoMemory>
-    ensures { OnOk result (Adds text.old.items text.new.items (claims_behind_pieces depth (claims_account (map expr_tree claims.now)))) }
+fn add_claims(claims: &[Expr], depth: u32, light: bool, text: &mut Vec<u8>) -> Result<(), NoMemory>
+    ensures { OnOk result (Adds text.old.items text.new.items (claims_behind_pieces depth (claims_account light (map expr_tree claims.now)))) }
 {
     if claims.is_empty() {
         Ok(())
     } else {
         add_text(",", text)?;
-        add_exprs(claims, Gap::Line(depth), Gap::Line(depth), text)
+        add_exprs(claims, Gap::Line(depth), Gap::Line(depth), light, text)
     }
 }
 
@@ -118,16 +123,17 @@ pub(crate) fn add_invariant(
     modifies: &[Name],
     claims: &[Expr],
     depth: u32,
+    light: bool,
     text: &mut Vec<u8>,
 ) -> Result<(), NoMemory>
-    ensures { OnOk result (Adds text.old.items text.new.items (invariant_pieces depth (invariant_account modifies.now (map expr_tree claims.now)))) }
+    ensures { OnOk result (Adds text.old.items text.new.items (invariant_pieces depth (invariant_account light modifies.now (map expr_tree claims.now)))) }
 {
     let inner = deeper(depth)?;
     add_word(Gap::Line(depth), "Invariant", text)?;
     add_text("(", text)?;
     add_word(Gap::Line(inner), "Modifies", text)?;
     add_names(modifies, text)?;
-    add_claims(claims, inner, text)?;
+    add_claims(claims, inner, light, text)?;
     add_word(Gap::Line(depth), ")", text)
 }
 
@@ -136,13 +142,14 @@ pub(crate) fn add_deduction(
     steps: &[Step],
     depth: u32,
     gap: Gap,
+    light: bool,
     text: &mut Vec<u8>,
 ) -> Result<(), NoMemory>
-    ensures { OnOk result (Adds text.old.items text.new.items (deduction_pieces depth (gap_seen gap) steps.now)) }
+    ensures { OnOk result (Adds text.old.items text.new.items (deduction_pieces light depth (gap_seen gap) steps.now)) }
 {
     let inner = deeper(depth)?;
     add_word(gap, "Deduce", text)?;
     add_text("(", text)?;
-    add_steps(steps, inner, text)?;
+    add_steps(steps, inner, light, text)?;
     add_word(Gap::Line(depth), ")", text)
 }

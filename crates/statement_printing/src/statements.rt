@@ -45,8 +45,14 @@ fn is_lone_branch(stmt: &Stmt, others: &[Stmt]) -> bool
 /// Adds a statement behind a gap, inside so many levels.
 #[cycle(printing)]
 #[tactic(auto, using(crate::proofs::Sizes::smaller_lines))]
-pub fn add_stmt(stmt: &Stmt, depth: u32, gap: Gap, text: &mut Vec<u8>) -> Result<(), NoMemory>
-    ensures { OnOk result (Adds text.old.items text.new.items (stmt_pieces depth (gap_seen gap) (stmt_account (stmt_tree stmt.now)))) }
+pub fn add_stmt(
+    stmt: &Stmt,
+    depth: u32,
+    gap: Gap,
+    light: bool,
+    text: &mut Vec<u8>,
+) -> Result<(), NoMemory>
+    ensures { OnOk result (Adds text.old.items text.new.items (stmt_pieces depth (gap_seen gap) (stmt_account light (stmt_tree stmt.now)))) }
 {
     match stmt {
         Stmt::Val {
@@ -56,7 +62,7 @@ pub fn add_stmt(stmt: &Stmt, depth: u32, gap: Gap, text: &mut Vec<u8>) -> Result
             ..
         } => {
             add_declared(true, name, ty, gap, text)?;
-            add_expr(value, Gap::Blank, text)
+            add_expr(value, Gap::Blank, light, text)
         }
         Stmt::Var {
             name,
@@ -65,16 +71,16 @@ pub fn add_stmt(stmt: &Stmt, depth: u32, gap: Gap, text: &mut Vec<u8>) -> Result
             ..
         } => {
             add_declared(false, name, ty, gap, text)?;
-            add_expr(value, Gap::Blank, text)
+            add_expr(value, Gap::Blank, light, text)
         }
         Stmt::Assign { name, value } => {
             add_name(gap, name, text)?;
             add_word(Gap::Blank, "=", text)?;
-            add_expr(value, Gap::Blank, text)
+            add_expr(value, Gap::Blank, light, text)
         }
         Stmt::Call { name, arguments } => {
             add_name(gap, name, text)?;
-            add_arguments(arguments.as_slice(), text)
+            add_arguments(arguments.as_slice(), light, text)
         }
         Stmt::If {
             test,
@@ -83,9 +89,9 @@ pub fn add_stmt(stmt: &Stmt, depth: u32, gap: Gap, text: &mut Vec<u8>) -> Result
             ..
         } => {
             add_word(gap, "if", text)?;
-            add_enclosed(test, Gap::Blank, text)?;
-            add_braced(then.as_slice(), depth, text)?;
-            add_otherwise(otherwise, depth, text)
+            add_enclosed(test, Gap::Blank, light, text)?;
+            add_braced(then.as_slice(), depth, light, text)?;
+            add_otherwise(otherwise, depth, light, text)
         }
         Stmt::While {
             test,
@@ -95,20 +101,21 @@ pub fn add_stmt(stmt: &Stmt, depth: u32, gap: Gap, text: &mut Vec<u8>) -> Result
             ..
         } => {
             add_word(gap, "while", text)?;
-            add_enclosed(test, Gap::Blank, text)?;
+            add_enclosed(test, Gap::Blank, light, text)?;
             add_loop(
                 modifies.as_slice(),
                 claims.as_slice(),
                 body.as_slice(),
                 depth,
+                light,
                 text,
             )
         }
         Stmt::Assert { claim, .. } => {
             add_word(gap, "assert", text)?;
-            add_enclosed(claim, Gap::None, text)
+            add_enclosed(claim, Gap::None, light, text)
         }
-        Stmt::Deduce { steps, .. } => add_deduction(steps.as_slice(), depth, gap, text),
+        Stmt::Deduce { steps, .. } => add_deduction(steps.as_slice(), depth, gap, light, text),
     }
 }
 
@@ -119,14 +126,15 @@ fn add_loop(
     claims: &[Expr],
     body: &[Stmt],
     depth: u32,
+    light: bool,
     text: &mut Vec<u8>,
 ) -> Result<(), NoMemory>
-    ensures { OnOk result (Adds text.old.items text.new.items (loop_of depth modifies.now claims.now body.now)) }
+    ensures { OnOk result (Adds text.old.items text.new.items (loop_of light depth modifies.now claims.now body.now)) }
 {
     let inner = deeper(depth)?;
     add_word(Gap::Blank, "{", text)?;
-    add_invariant(modifies, claims, inner, text)?;
-    add_stmts(body, inner, text)?;
+    add_invariant(modifies, claims, inner, light, text)?;
+    add_stmts(body, inner, light, text)?;
     add_word(Gap::Line(depth), "}", text)
 }
 
@@ -135,29 +143,30 @@ fn add_loop(
 fn add_otherwise(
     otherwise: &Option<Items<Stmt>>,
     depth: u32,
+    light: bool,
     text: &mut Vec<u8>,
 ) -> Result<(), NoMemory>
-    ensures { OnOk result (Adds text.old.items text.new.items (otherwise_pieces depth otherwise.now)) }
+    ensures { OnOk result (Adds text.old.items text.new.items (otherwise_pieces light depth otherwise.now)) }
 {
     match otherwise {
         None => Ok(()),
-        Some(stmts) => add_else(stmts.as_slice(), depth, text),
+        Some(stmts) => add_else(stmts.as_slice(), depth, light, text),
     }
 }
 
 /// Adds `else` and the statements behind it. An `if` that is all of them stands there without braces.
 #[cycle(printing)]
-fn add_else(stmts: &[Stmt], depth: u32, text: &mut Vec<u8>) -> Result<(), NoMemory>
-    ensures { OnOk result (Adds text.old.items text.new.items (else_of_pieces depth stmts.now)) }
+fn add_else(stmts: &[Stmt], depth: u32, light: bool, text: &mut Vec<u8>) -> Result<(), NoMemory>
+    ensures { OnOk result (Adds text.old.items text.new.items (else_of_pieces light depth stmts.now)) }
 {
     add_word(Gap::Blank, "else", text)?;
     match stmts.split_first() {
-        None => add_braced(stmts, depth, text),
+        None => add_braced(stmts, depth, light, text),
         Some((stmt, others)) => {
             if is_lone_branch(stmt, others) {
-                add_stmt(stmt, depth, Gap::Blank, text)
+                add_stmt(stmt, depth, Gap::Blank, light, text)
             } else {
-                add_braced(stmts, depth, text)
+                add_braced(stmts, depth, light, text)
             }
         }
     }
@@ -165,23 +174,23 @@ fn add_else(stmts: &[Stmt], depth: u32, text: &mut Vec<u8>) -> Result<(), NoMemo
 
 /// Adds statements in braces.
 #[cycle(printing)]
-fn add_braced(stmts: &[Stmt], depth: u32, text: &mut Vec<u8>) -> Result<(), NoMemory>
-    ensures { OnOk result (Adds text.old.items text.new.items (braced_pieces depth stmts.now)) }
+fn add_braced(stmts: &[Stmt], depth: u32, light: bool, text: &mut Vec<u8>) -> Result<(), NoMemory>
+    ensures { OnOk result (Adds text.old.items text.new.items (braced_pieces light depth stmts.now)) }
 {
     let inner = deeper(depth)?;
     add_word(Gap::Blank, "{", text)?;
-    add_stmts(stmts, inner, text)?;
+    add_stmts(stmts, inner, light, text)?;
     add_word(Gap::Line(depth), "}", text)
 }
 
 /// Adds statements, each on lines of its own.
 #[cycle(printing)]
 #[tactic(auto, using(crate::proofs::Sizes::size_lines))]
-fn add_stmts(stmts: &[Stmt], depth: u32, text: &mut Vec<u8>) -> Result<(), NoMemory>
-    ensures { OnOk result (Adds text.old.items text.new.items (stmt_lines depth stmts.now)) }
+fn add_stmts(stmts: &[Stmt], depth: u32, light: bool, text: &mut Vec<u8>) -> Result<(), NoMemory>
+    ensures { OnOk result (Adds text.old.items text.new.items (stmt_lines light depth stmts.now)) }
 {
     for stmt in stmts {
-        add_stmt(stmt, depth, Gap::Line(depth), text)?;
+        add_stmt(stmt, depth, Gap::Line(depth), light, text)?;
     }
     Ok(())
 }

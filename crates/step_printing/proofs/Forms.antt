@@ -81,98 +81,8 @@ rule_spelled rule =
 pub rule_added : {a b : List ℕ} (rule : Name) → b ≡ a ++ gap_bytes blank ++ rule.text → Adds a b (rule_pieces rule)
 rule_added rule h = adds_token blank (rule_token (rule_account rule)) rule.text (rule_spelled rule) h
 
--- ---- steps
-
-steps_listed : (depth : ℕ) (step : Step) (steps : List Step) →
-    steps_pieces depth (steps_account (steps_of (map step_tree (step ∷ steps)))) ≡ step_pieces depth (step_account (step_tree step)) ++ steps_behind depth steps
-steps_listed depth step [] = sym (append-nil (step_pieces depth (step_account (step_tree step))))
-steps_listed depth step (other ∷ steps) =
-    ap (λ l. step_pieces depth (step_account (step_tree step)) ++ (mark none kind.Comma nowhere ∷ l)) (steps_listed depth other steps)
-
-all_behind : (depth : ℕ) (steps : List Step) → behind_pieces depth (as_behind (steps_account (steps_of (map step_tree steps)))) ≡ steps_behind depth steps
-all_behind depth [] = refl
-all_behind depth (step ∷ []) = ap (λ l. mark none kind.Comma nowhere ∷ l) (steps_listed depth step [])
-all_behind depth (step ∷ other ∷ steps) = ap (λ l. mark none kind.Comma nowhere ∷ l) (steps_listed depth step (other ∷ steps))
-
-pub steps_added : {a b c : List ℕ} (depth : ℕ) (own : List Step) (step : Step) (steps : List Step) → own ≡ step ∷ steps →
-    Adds a b (step_pieces depth (step_account (step_tree step))) → Adds b c (steps_behind depth steps) → Adds a c (steps_pieces depth (steps_account (steps_of (map step_tree own))))
-steps_added {a} {b} {c} depth own step steps is h k =
-    subst (λ o. Adds a c (steps_pieces depth (steps_account (steps_of (map step_tree o))))) (sym is)
-    (adds_same _ _ (sym (steps_listed depth step steps)) (adds_then h k))
-
-steps-append : (depth : ℕ) (xs ys : List Step) → steps_behind depth (xs ++ ys) ≡ steps_behind depth xs ++ steps_behind depth ys
-steps-append depth [] ys = refl
-steps-append depth (x ∷ xs) ys =
-    ap (λ l. (mark none kind.Comma nowhere ∷ step_pieces depth (step_account (step_tree x))) ++ l) (steps-append depth xs ys)
-    ∙ sym (append_assoc (mark none kind.Comma nowhere ∷ step_pieces depth (step_account (step_tree x))) (steps_behind depth xs) (steps_behind depth ys))
-
-pub one_step_behind : {a b c d : List ℕ} (depth : ℕ) (steps : List Step) (at : ℕ) (step : Step) → at < length steps → step ≡ get_or steps at step →
-    Adds a b (steps_behind depth (take at steps)) → c ≡ b ++ codes "," → Adds c d (step_pieces depth (step_account (step_tree step))) →
-    Adds a d (steps_behind depth (take (at + 1) steps))
-unfolding signs words
-one_step_behind {a} {b} {c} {d} depth steps at step within is before comma added =
-    adds_same _ _
-    (ap (λ l. steps_behind depth (take at steps) ++ l) (sym (append-nil (mark none kind.Comma nowhere ∷ step_pieces depth (step_account (step_tree step)))))
-    ∙ sym (steps-append depth (take at steps) (step ∷ []))
-    ∙ ap (steps_behind depth) (ap (λ x. take at steps ++ x ∷ []) is ∙ sym (take_more steps at step within)))
-    (adds_then before (adds_then (adds_text kind.Comma nowhere (codes ",") refl comma) added))
-
--- an assumption, with the gap of its own line
-abbrev assumed_pieces : ℕ → Label → Expr → List Piece
-assumed_pieces depth assumed claim = assumption_pieces (suc depth) (assume_account assumed (expr_tree claim))
-
-pub block_added : {a b c : List ℕ} (depth : ℕ) (own : Step) (label assumed : Label) (claim : Expr) (steps shown : List Step) → shown ≡ steps →
-    step_tree own ≡ block label assumed (expr_tree claim) (steps_of (map step_tree steps)) → Adds a b (label_pieces (pieces.line depth) label) →
-    Adds b c (block_pieces depth assumed claim shown) → Adds a c (step_pieces depth (step_account (step_tree own)))
-block_added {a} {b} {c} depth own label assumed claim steps shown same is h k =
-    subst (λ t. Adds a c (step_pieces depth (step_account t))) (sym is)
-    (adds_same _ _
-    (ap (λ l. ((piece (pieces.line depth) (label_token (label_account label)) ∷ assumed_pieces depth assumed claim) ++ l) ++ mark (pieces.line depth) kind.RightParen nowhere ∷ [])
-    (sym (all_behind (suc depth) steps)))
-    (adds_then h (subst (λ l. Adds b c (block_pieces depth assumed claim l)) same k)))
-
 regroup : (l m n : List Piece) (p q : Piece) → ((l ++ m) ++ n) ++ p ∷ q ∷ [] ≡ l ++ (((m ++ n) ++ p ∷ []) ++ q ∷ [])
 regroup l m n p q = simp append_assoc
-
-pub let_block_added : {a b c d e : List ℕ} (depth : ℕ) (own : Step) (label : Label) (name : Name) (assumed : Label) (claim : Expr) (steps shown : List Step) → shown ≡ steps →
-    step_tree own ≡ let_block label name assumed (expr_tree claim) (steps_of (map step_tree steps)) → Adds a b (label_pieces (pieces.line depth) label) →
-    Adds b c (let_pieces (let_account name)) → Adds c d (block_pieces depth assumed claim shown) → e ≡ d ++ codes ")" →
-    Adds a e (step_pieces depth (step_account (step_tree own)))
-unfolding signs words
-let_block_added {a} {b} {c} {d} {e} depth own label name assumed claim steps shown same is h k m right =
-    subst (λ t. Adds a e (step_pieces depth (step_account t))) (sym is)
-    (adds_same _ _
-    (sym (regroup (piece (pieces.line depth) (label_token (label_account label)) ∷ let_pieces (let_account name)) (assumed_pieces depth assumed claim)
-    (steps_behind (suc depth) steps) (mark (pieces.line depth) kind.RightParen nowhere) (mark none kind.RightParen nowhere))
-    ∙ ap (λ l. (((piece (pieces.line depth) (label_token (label_account label)) ∷ let_pieces (let_account name)) ++ assumed_pieces depth assumed claim) ++ l)
-    ++ mark (pieces.line depth) kind.RightParen nowhere ∷ mark none kind.RightParen nowhere ∷ []) (sym (all_behind (suc depth) steps)))
-    (adds_then h (adds_then k (adds_then (subst (λ l. Adds c d (block_pieces depth assumed claim l)) same m) (adds_text kind.RightParen nowhere (codes ")") refl right)))))
-
--- ---- lines
-
-pub line_added : {a b c d e f g h : List ℕ} (depth : ℕ) (label : Label) (claim : Expr) (rule : Name) (cites : List Label) →
-    Adds a b (label_pieces (pieces.line depth) label) → c ≡ b ++ gap_bytes blank ++ codes "(" → Adds c d (expr_pieces none (expr_account (expr_tree claim))) →
-    e ≡ d ++ codes ")" → f ≡ e ++ gap_bytes blank ++ codes "by" → Adds f g (rule_pieces rule) → Adds g h (cites_pieces (cites_account cites)) →
-    Adds a h (line_pieces depth label claim rule cites)
-unfolding signs words
-line_added depth label claim rule cites label_is left claim_is right by rule_is cites_are =
-    adds_then (adds_then label_is (adds_then (adds_word blank kind.LeftParen nowhere (codes "(") refl left) claim_is))
-    (adds_then (adds_text kind.RightParen nowhere (codes ")") refl right)
-    (adds_then (adds_word blank kind.By nowhere (codes "by") refl by) (adds_then rule_is cites_are)))
-
-pub assumption_added : {a b c d e f g h : List ℕ} (inner : ℕ) (label : Label) (claim : Expr) → b ≡ a ++ gap_bytes blank ++ codes "SubProof" →
-    c ≡ b ++ codes "(" → Adds c d (label_pieces (pieces.line inner) label) → e ≡ d ++ gap_bytes blank ++ codes "Assume" → f ≡ e ++ codes "(" →
-    Adds f g (expr_pieces none (expr_account (expr_tree claim))) → h ≡ g ++ codes ")" →
-    Adds a h (assumption_pieces inner (assume_account label (expr_tree claim)))
-unfolding signs words
-assumption_added inner label claim word left label_is assume claim_left claim_is right =
-    adds_then
-    (adds_then (adds_word blank kind.SubProof nowhere (codes "SubProof") refl word)
-    (adds_then (adds_text kind.LeftParen nowhere (codes "(") refl left)
-    (adds_then label_is
-    (adds_then (adds_word blank kind.Assume nowhere (codes "Assume") refl assume)
-    (adds_then (adds_text kind.LeftParen nowhere (codes "(") refl claim_left) claim_is)))))
-    (adds_text kind.RightParen nowhere (codes ")") refl right)
 
 pub let_added : {a b c d e f g h i : List ℕ} (name : Name) → b ≡ a ++ gap_bytes blank ++ codes "Let" → c ≡ b ++ codes "(" → d ≡ c ++ codes "(" →
     e ≡ d ++ gap_bytes none ++ name.text → f ≡ e ++ codes ":" → g ≡ f ++ gap_bytes blank ++ codes "Z" → h ≡ g ++ codes ")" →
@@ -187,13 +97,104 @@ let_added name word outer left name_is colon ty right arrow =
     (adds_then (adds_word blank kind.TypeZ nowhere (codes "Z") refl ty)
     (adds_then (adds_text kind.RightParen nowhere (codes ")") refl right) (adds_word blank kind.FatArrow nowhere (codes "=>") refl arrow)))))))
 
--- what stands around the steps of a block
-pub around_added : {a b c d : List ℕ} (depth inner : ℕ) (assumed : Label) (claim : Expr) (steps : List Step) → inner ≡ suc depth →
-    Adds a b (assumption_pieces inner (assume_account assumed (expr_tree claim))) → Adds b c (steps_behind inner steps) →
-    d ≡ c ++ gap_bytes (pieces.line depth) ++ codes ")" → Adds a d (block_pieces depth assumed claim steps)
-unfolding signs words
-around_added {a} {b} {c} depth inner assumed claim steps is h k right =
-    adds_then
-    (adds_then (subst (λ n. Adds a b (assumption_pieces n (assume_account assumed (expr_tree claim)))) is h)
-    (subst (λ n. Adds b c (steps_behind n steps)) is k))
-    (adds_word (pieces.line depth) kind.RightParen nowhere (codes ")") refl right)
+module _ (light : Bool) where
+  -- ---- steps
+
+  steps_listed : (depth : ℕ) (step : Step) (steps : List Step) →
+      steps_pieces depth (steps_account light (steps_of (map step_tree (step ∷ steps)))) ≡ step_pieces depth (step_account light (step_tree step)) ++ steps_behind light depth steps
+  steps_listed depth step [] = sym (append-nil (step_pieces depth (step_account light (step_tree step))))
+  steps_listed depth step (other ∷ steps) =
+      ap (λ l. step_pieces depth (step_account light (step_tree step)) ++ (mark none kind.Comma nowhere ∷ l)) (steps_listed depth other steps)
+
+  all_behind : (depth : ℕ) (steps : List Step) → behind_pieces depth (as_behind (steps_account light (steps_of (map step_tree steps)))) ≡ steps_behind light depth steps
+  all_behind depth [] = refl
+  all_behind depth (step ∷ []) = ap (λ l. mark none kind.Comma nowhere ∷ l) (steps_listed depth step [])
+  all_behind depth (step ∷ other ∷ steps) = ap (λ l. mark none kind.Comma nowhere ∷ l) (steps_listed depth step (other ∷ steps))
+
+  pub steps_added : {a b c : List ℕ} (depth : ℕ) (own : List Step) (step : Step) (steps : List Step) → own ≡ step ∷ steps →
+      Adds a b (step_pieces depth (step_account light (step_tree step))) → Adds b c (steps_behind light depth steps) → Adds a c (steps_pieces depth (steps_account light (steps_of (map step_tree own))))
+  steps_added {a} {b} {c} depth own step steps is h k =
+      subst (λ o. Adds a c (steps_pieces depth (steps_account light (steps_of (map step_tree o))))) (sym is)
+      (adds_same _ _ (sym (steps_listed depth step steps)) (adds_then h k))
+
+  steps-append : (depth : ℕ) (xs ys : List Step) → steps_behind light depth (xs ++ ys) ≡ steps_behind light depth xs ++ steps_behind light depth ys
+  steps-append depth [] ys = refl
+  steps-append depth (x ∷ xs) ys =
+      ap (λ l. (mark none kind.Comma nowhere ∷ step_pieces depth (step_account light (step_tree x))) ++ l) (steps-append depth xs ys)
+      ∙ sym (append_assoc (mark none kind.Comma nowhere ∷ step_pieces depth (step_account light (step_tree x))) (steps_behind light depth xs) (steps_behind light depth ys))
+
+  pub one_step_behind : {a b c d : List ℕ} (depth : ℕ) (steps : List Step) (at : ℕ) (step : Step) → at < length steps → step ≡ get_or steps at step →
+      Adds a b (steps_behind light depth (take at steps)) → c ≡ b ++ codes "," → Adds c d (step_pieces depth (step_account light (step_tree step))) →
+      Adds a d (steps_behind light depth (take (at + 1) steps))
+  unfolding signs words
+  one_step_behind {a} {b} {c} {d} depth steps at step within is before comma added =
+      adds_same _ _
+      (ap (λ l. steps_behind light depth (take at steps) ++ l) (sym (append-nil (mark none kind.Comma nowhere ∷ step_pieces depth (step_account light (step_tree step)))))
+      ∙ sym (steps-append depth (take at steps) (step ∷ []))
+      ∙ ap (steps_behind light depth) (ap (λ x. take at steps ++ x ∷ []) is ∙ sym (take_more steps at step within)))
+      (adds_then before (adds_then (adds_text kind.Comma nowhere (codes ",") refl comma) added))
+
+  -- an assumption, with the gap of its own line
+  abbrev assumed_pieces : ℕ → Label → Expr → List Piece
+  assumed_pieces depth assumed claim = assumption_pieces (suc depth) (assume_account light assumed (expr_tree claim))
+
+  pub block_added : {a b c : List ℕ} (depth : ℕ) (own : Step) (label assumed : Label) (claim : Expr) (steps shown : List Step) → shown ≡ steps →
+      step_tree own ≡ block label assumed (expr_tree claim) (steps_of (map step_tree steps)) → Adds a b (label_pieces (pieces.line depth) label) →
+      Adds b c (block_pieces light depth assumed claim shown) → Adds a c (step_pieces depth (step_account light (step_tree own)))
+  block_added {a} {b} {c} depth own label assumed claim steps shown same is h k =
+      subst (λ t. Adds a c (step_pieces depth (step_account light t))) (sym is)
+      (adds_same _ _
+      (ap (λ l. ((piece (pieces.line depth) (label_token (label_account label)) ∷ assumed_pieces depth assumed claim) ++ l) ++ mark (pieces.line depth) kind.RightParen nowhere ∷ [])
+      (sym (all_behind (suc depth) steps)))
+      (adds_then h (subst (λ l. Adds b c (block_pieces light depth assumed claim l)) same k)))
+
+  pub let_block_added : {a b c d e : List ℕ} (depth : ℕ) (own : Step) (label : Label) (name : Name) (assumed : Label) (claim : Expr) (steps shown : List Step) → shown ≡ steps →
+      step_tree own ≡ let_block label name assumed (expr_tree claim) (steps_of (map step_tree steps)) → Adds a b (label_pieces (pieces.line depth) label) →
+      Adds b c (let_pieces (let_account name)) → Adds c d (block_pieces light depth assumed claim shown) → e ≡ d ++ codes ")" →
+      Adds a e (step_pieces depth (step_account light (step_tree own)))
+  unfolding signs words
+  let_block_added {a} {b} {c} {d} {e} depth own label name assumed claim steps shown same is h k m right =
+      subst (λ t. Adds a e (step_pieces depth (step_account light t))) (sym is)
+      (adds_same _ _
+      (sym (regroup (piece (pieces.line depth) (label_token (label_account label)) ∷ let_pieces (let_account name)) (assumed_pieces depth assumed claim)
+      (steps_behind light (suc depth) steps) (mark (pieces.line depth) kind.RightParen nowhere) (mark none kind.RightParen nowhere))
+      ∙ ap (λ l. (((piece (pieces.line depth) (label_token (label_account label)) ∷ let_pieces (let_account name)) ++ assumed_pieces depth assumed claim) ++ l)
+      ++ mark (pieces.line depth) kind.RightParen nowhere ∷ mark none kind.RightParen nowhere ∷ []) (sym (all_behind (suc depth) steps)))
+      (adds_then h (adds_then k (adds_then (subst (λ l. Adds c d (block_pieces light depth assumed claim l)) same m) (adds_text kind.RightParen nowhere (codes ")") refl right)))))
+
+  -- ---- lines
+
+  pub line_added : {a b c d e f g h : List ℕ} (depth : ℕ) (label : Label) (claim : Expr) (rule : Name) (cites : List Label) →
+      Adds a b (label_pieces (pieces.line depth) label) → c ≡ b ++ gap_bytes blank ++ codes "(" → Adds c d (expr_pieces none (expr_account light (expr_tree claim))) →
+      e ≡ d ++ codes ")" → f ≡ e ++ gap_bytes blank ++ codes "by" → Adds f g (rule_pieces rule) → Adds g h (cites_pieces (cites_account cites)) →
+      Adds a h (line_pieces light depth label claim rule cites)
+  unfolding signs words
+  line_added depth label claim rule cites label_is left claim_is right by rule_is cites_are =
+      adds_then (adds_then label_is (adds_then (adds_word blank kind.LeftParen nowhere (codes "(") refl left) claim_is))
+      (adds_then (adds_text kind.RightParen nowhere (codes ")") refl right)
+      (adds_then (adds_word blank kind.By nowhere (codes "by") refl by) (adds_then rule_is cites_are)))
+
+  pub assumption_added : {a b c d e f g h : List ℕ} (inner : ℕ) (label : Label) (claim : Expr) → b ≡ a ++ gap_bytes blank ++ codes "SubProof" →
+      c ≡ b ++ codes "(" → Adds c d (label_pieces (pieces.line inner) label) → e ≡ d ++ gap_bytes blank ++ codes "Assume" → f ≡ e ++ codes "(" →
+      Adds f g (expr_pieces none (expr_account light (expr_tree claim))) → h ≡ g ++ codes ")" →
+      Adds a h (assumption_pieces inner (assume_account light label (expr_tree claim)))
+  unfolding signs words
+  assumption_added inner label claim word left label_is assume claim_left claim_is right =
+      adds_then
+      (adds_then (adds_word blank kind.SubProof nowhere (codes "SubProof") refl word)
+      (adds_then (adds_text kind.LeftParen nowhere (codes "(") refl left)
+      (adds_then label_is
+      (adds_then (adds_word blank kind.Assume nowhere (codes "Assume") refl assume)
+      (adds_then (adds_text kind.LeftParen nowhere (codes "(") refl claim_left) claim_is)))))
+      (adds_text kind.RightParen nowhere (codes ")") refl right)
+
+  -- what stands around the steps of a block
+  pub around_added : {a b c d : List ℕ} (depth inner : ℕ) (assumed : Label) (claim : Expr) (steps : List Step) → inner ≡ suc depth →
+      Adds a b (assumption_pieces inner (assume_account light assumed (expr_tree claim))) → Adds b c (steps_behind light inner steps) →
+      d ≡ c ++ gap_bytes (pieces.line depth) ++ codes ")" → Adds a d (block_pieces light depth assumed claim steps)
+  unfolding signs words
+  around_added {a} {b} {c} depth inner assumed claim steps is h k right =
+      adds_then
+      (adds_then (subst (λ n. Adds a b (assumption_pieces n (assume_account light assumed (expr_tree claim)))) is h)
+      (subst (λ n. Adds b c (steps_behind light n steps)) is k))
+      (adds_word (pieces.line depth) kind.RightParen nowhere (codes ")") refl right)

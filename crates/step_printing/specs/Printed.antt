@@ -1,5 +1,5 @@
 -- The bytes that are printed of steps.
-use Rattle.std.specs.Prelude.{ℕ, suc, List, [], ◌∷◌, ◌++◌}
+use Rattle.std.specs.Prelude.{Bool, ℕ, suc, List, [], ◌∷◌, ◌++◌}
 use Rattle.slang_lexer.specs.declared.token.TokenKind.TheVariants as kind
 use Rattle.slang_tree.specs.declared.expression.Name.{Name}
 use Rattle.slang_tree.specs.declared.expression.Expr.{Expr}
@@ -28,23 +28,24 @@ labels_behind (label ∷ labels) = (mark none kind.Comma nowhere ∷ label_piece
 abbrev pub rule_pieces : Name → List Piece
 rule_pieces rule = piece blank (rule_token (rule_account rule)) ∷ []
 
-abbrev pub line_pieces : ℕ → Label → Expr → Name → List Label → List Piece
-line_pieces depth label claim rule cites =
-    step_pieces depth (line (label_account label) nowhere (expr_account (expr_tree claim)) nowhere nowhere (rule_account rule) (cites_account cites))
-
 -- what is assumed, on a line at that depth
 abbrev pub assumption_pieces : ℕ → AssumeText → List Piece
 assumption_pieces inner a =
     mark blank kind.SubProof a.word ∷ mark none kind.LeftParen a.left ∷ piece (pieces.line inner) (label_token a.label) ∷ mark blank kind.Assume a.assume
     ∷ mark none kind.LeftParen a.claim_left ∷ expr_pieces none a.claim ++ mark none kind.RightParen a.claim_right ∷ []
 
--- each behind a comma
-abbrev pub steps_behind : ℕ → List Step → List Piece
-steps_behind depth [] = []
-steps_behind depth (step ∷ steps) = (mark none kind.Comma nowhere ∷ step_pieces depth (step_account (step_tree step))) ++ steps_behind depth steps
+module _ (light : Bool) where
+  abbrev pub line_pieces : ℕ → Label → Expr → Name → List Label → List Piece
+  line_pieces depth label claim rule cites =
+      step_pieces depth (line (label_account label) nowhere (expr_account light (expr_tree claim)) nowhere nowhere (rule_account rule) (cites_account cites))
 
--- an assumption with the steps behind it
-abbrev pub block_pieces : ℕ → Label → Expr → List Step → List Piece
-block_pieces depth assumed claim steps =
-    (assumption_pieces (suc depth) (assume_account assumed (expr_tree claim)) ++ steps_behind (suc depth) steps)
-    ++ mark (pieces.line depth) kind.RightParen nowhere ∷ []
+  -- each behind a comma
+  abbrev pub steps_behind : ℕ → List Step → List Piece
+  steps_behind depth [] = []
+  steps_behind depth (step ∷ steps) = (mark none kind.Comma nowhere ∷ step_pieces depth (step_account light (step_tree step))) ++ steps_behind depth steps
+
+  -- an assumption with the steps behind it
+  abbrev pub block_pieces : ℕ → Label → Expr → List Step → List Piece
+  block_pieces depth assumed claim steps =
+      (assumption_pieces (suc depth) (assume_account light assumed (expr_tree claim)) ++ steps_behind (suc depth) steps)
+      ++ mark (pieces.line depth) kind.RightParen nowhere ∷ []

@@ -68,13 +68,14 @@ pub(crate) fn add_line(
     rule: &Name,
     cites: &[Label],
     depth: u32,
+    light: bool,
     text: &mut Vec<u8>,
 ) -> Result<(), NoMemory>
-    ensures { OnOk result (Adds text.old.items text.new.items (line_pieces depth label claim.now rule.now cites.now)) }
+    ensures { OnOk result (Adds text.old.items text.new.items (line_pieces light depth label claim.now rule.now cites.now)) }
 {
     add_label(label, Gap::Line(depth), text)?;
     add_word(Gap::Blank, "(", text)?;
-    add_expr(claim, Gap::None, text)?;
+    add_expr(claim, Gap::None, light, text)?;
     add_text(")", text)?;
     add_word(Gap::Blank, "by", text)?;
     add_rule(rule, text)?;
@@ -86,16 +87,17 @@ pub(crate) fn add_assumption(
     label: Label,
     claim: &Expr,
     inner: u32,
+    light: bool,
     text: &mut Vec<u8>,
 ) -> Result<(), NoMemory>
-    ensures { OnOk result (Adds text.old.items text.new.items (assumption_pieces inner (assume_account label (expr_tree claim.now)))) }
+    ensures { OnOk result (Adds text.old.items text.new.items (assumption_pieces inner (assume_account light label (expr_tree claim.now)))) }
 {
     add_word(Gap::Blank, "SubProof", text)?;
     add_text("(", text)?;
     add_label(label, Gap::Line(inner), text)?;
     add_word(Gap::Blank, "Assume", text)?;
     add_text("(", text)?;
-    add_expr(claim, Gap::None, text)?;
+    add_expr(claim, Gap::None, light, text)?;
     add_text(")", text)
 }
 

@@ -13,8 +13,8 @@ use token_printing::{Gap, add_text, add_word};
 /// Adds a step on lines of its own.
 #[cycle(printing)]
 #[tactic(auto, using(slang_tree::proofs::Lines::step_lines, crate::proofs::Sizes::smaller_lines))]
-fn add_step(step: &Step, depth: u32, text: &mut Vec<u8>) -> Result<(), NoMemory>
-    ensures { OnOk result (Adds text.old.items text.new.items (step_pieces depth (step_account (step_tree step.now)))) }
+fn add_step(step: &Step, depth: u32, light: bool, text: &mut Vec<u8>) -> Result<(), NoMemory>
+    ensures { OnOk result (Adds text.old.items text.new.items (step_pieces depth (step_account light (step_tree step.now)))) }
 {
     match step {
         Step::Line {
@@ -22,7 +22,7 @@ fn add_step(step: &Step, depth: u32, text: &mut Vec<u8>) -> Result<(), NoMemory>
             claim,
             rule,
             cites,
-        } => add_line(*label, claim, rule, cites.as_slice(), depth, text),
+        } => add_line(*label, claim, rule, cites.as_slice(), depth, light, text),
         Step::Sub {
             label,
             assumed,
@@ -30,7 +30,7 @@ fn add_step(step: &Step, depth: u32, text: &mut Vec<u8>) -> Result<(), NoMemory>
             steps,
         } => {
             add_label(*label, Gap::Line(depth), text)?;
-            add_block(*assumed, assumption, steps.as_slice(), depth, text)
+            add_block(*assumed, assumption, steps.as_slice(), depth, light, text)
         }
         Step::Let {
             label,
@@ -41,7 +41,7 @@ fn add_step(step: &Step, depth: u32, text: &mut Vec<u8>) -> Result<(), NoMemory>
         } => {
             add_label(*label, Gap::Line(depth), text)?;
             add_let(name, text)?;
-            add_block(*assumed, assumption, steps.as_slice(), depth, text)?;
+            add_block(*assumed, assumption, steps.as_slice(), depth, light, text)?;
             add_text(")", text)
         }
     }
@@ -54,38 +54,44 @@ fn add_block(
     assumption: &Expr,
     steps: &[Step],
     depth: u32,
+    light: bool,
     text: &mut Vec<u8>,
 ) -> Result<(), NoMemory>
-    ensures { OnOk result (Adds text.old.items text.new.items (block_pieces depth assumed assumption.now steps.now)) }
+    ensures { OnOk result (Adds text.old.items text.new.items (block_pieces light depth assumed assumption.now steps.now)) }
 {
     let inner = deeper(depth)?;
-    add_assumption(assumed, assumption, inner, text)?;
-    add_behind(steps, inner, text)?;
+    add_assumption(assumed, assumption, inner, light, text)?;
+    add_behind(steps, inner, light, text)?;
     add_word(Gap::Line(depth), ")", text)
 }
 
 /// Adds steps, each behind a comma.
 #[cycle(printing)]
 #[tactic(auto, using(crate::proofs::Sizes::size_lines))]
-fn add_behind(steps: &[Step], depth: u32, text: &mut Vec<u8>) -> Result<(), NoMemory>
-    ensures { OnOk result (Adds text.old.items text.new.items (steps_behind depth steps.now)) }
+fn add_behind(steps: &[Step], depth: u32, light: bool, text: &mut Vec<u8>) -> Result<(), NoMemory>
+    ensures { OnOk result (Adds text.old.items text.new.items (steps_behind light depth steps.now)) }
 {
     for step in steps {
         add_text(",", text)?;
-        add_step(step, depth, text)?;
+        add_step(step, depth, light, text)?;
     }
     Ok(())
 }
 
 /// Adds steps, parted by commas.
-pub fn add_steps(steps: &[Step], depth: u32, text: &mut Vec<u8>) -> Result<(), NoMemory>
-    ensures { OnOk result (Adds text.old.items text.new.items (steps_pieces depth (steps_account (steps_of (map step_tree steps.now))))) }
+pub fn add_steps(
+    steps: &[Step],
+    depth: u32,
+    light: bool,
+    text: &mut Vec<u8>,
+) -> Result<(), NoMemory>
+    ensures { OnOk result (Adds text.old.items text.new.items (steps_pieces depth (steps_account light (steps_of (map step_tree steps.now))))) }
 {
     match steps.split_first() {
         None => Ok(()),
         Some((step, others)) => {
-            add_step(step, depth, text)?;
-            add_behind(others, depth, text)
+            add_step(step, depth, light, text)?;
+            add_behind(others, depth, light, text)
         }
     }
 }

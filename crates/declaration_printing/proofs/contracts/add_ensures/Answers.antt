@@ -3,9 +3,9 @@ use Rattle.declaration_printing.proofs.Clauses.{no_ensures_added, ensures_added}
 use Rattle.declaration_printing.proofs.contracts.add_ensures.Goals as goal
 
 pub returns-then-is_empty : goal.returns-then-is_empty
-returns-then-is_empty c = no_ensures_added c.args.first c.args.claims.now c.if-is_empty.ensures
+returns-then-is_empty c = no_ensures_added c.args.light c.args.first c.args.claims.now c.if-is_empty.ensures
 
 pub returns-in_ok-add_word : goal.returns-in_ok-add_word
 returns-in_ok-add_word c =
     on_ok_weaker c.add_arguments.result
-    (λ h. ensures_added c.args.first c.args.claims.now c.if-is_empty.ensures c.in_ok-add_comma.ensures c.in_ok-add_word.ensures h) c.add_arguments.ensures
+    (λ h. ensures_added c.args.light c.args.first c.args.claims.now c.if-is_empty.ensures c.in_ok-add_comma.ensures c.in_ok-add_word.ensures h) c.add_arguments.ensures

@@ -7,4 +7,4 @@ use Rattle.declaration_printing.proofs.methods.add_body.Given as goal
 
 -- those so far were added
 abbrev pub invariant-loop-stmt : goal.invariant-loop-stmt
-invariant-loop-stmt l = Adds l.fn.text.items l.text.items (part_lines (stmt_parts (map stmt_tree (take l.stmt-index l.stmts))))
+invariant-loop-stmt l = Adds l.fn.text.items l.text.items (part_lines (stmt_parts l.light (map stmt_tree (take l.stmt-index l.stmts))))

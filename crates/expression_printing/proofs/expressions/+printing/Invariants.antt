@@ -14,12 +14,6 @@ decreases-add_placed l = 8 * size-Expr l.expr.now + 1
 abbrev pub decreases-add_tight : goal.decreases-add_tight
 decreases-add_tight l = 8 * size-Expr l.expr.now + 2
 
-abbrev pub decreases-add_head : goal.decreases-add_head
-decreases-add_head l = 8 * size-Expr l.expr.now + 2
-
-abbrev pub decreases-add_operand : goal.decreases-add_operand
-decreases-add_operand l = 8 * size-Expr l.expr.now + 2
-
 abbrev pub decreases-add_binary : goal.decreases-add_binary
 decreases-add_binary l = 8 * max (size-Expr l.left.now) (size-Expr l.right.now) + 3
 
@@ -55,4 +49,4 @@ decreases-add_behind l = 8 * deepest l.exprs.now + 1
 
 -- the expressions so far were added
 abbrev pub invariant-add_behind-loop-expr : goal.invariant-add_behind-loop-expr
-invariant-add_behind-loop-expr l = Adds l.fn.text.items l.text.items (behind_pieces (gap_seen l.gap) (take l.expr-index l.exprs))
+invariant-add_behind-loop-expr l = Adds l.fn.text.items l.text.items (behind_pieces (gap_seen l.gap) l.light (take l.expr-index l.exprs))

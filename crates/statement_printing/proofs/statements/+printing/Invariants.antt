@@ -25,4 +25,4 @@ decreases-add_stmts l = 8 * deepest l.stmts.now + 1
 
 -- the statements so far were added
 abbrev pub invariant-add_stmts-loop-stmt : goal.invariant-add_stmts-loop-stmt
-invariant-add_stmts-loop-stmt l = Adds l.fn.text.items l.text.items (stmt_lines l.depth (take l.stmt-index l.stmts))
+invariant-add_stmts-loop-stmt l = Adds l.fn.text.items l.text.items (stmt_lines l.light l.depth (take l.stmt-index l.stmts))

@@ -16,4 +16,4 @@ decreases-add_behind l = 4 * deepest l.steps.now + 1
 
 -- the steps so far were added
 abbrev pub invariant-add_behind-loop-step : goal.invariant-add_behind-loop-step
-invariant-add_behind-loop-step l = Adds l.fn.text.items l.text.items (steps_behind l.depth (take l.step-index l.steps))
+invariant-add_behind-loop-step l = Adds l.fn.text.items l.text.items (steps_behind l.light l.depth (take l.step-index l.steps))

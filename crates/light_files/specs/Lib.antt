@@ -1,0 +1,2 @@
+pub mod Hefts
+pub mod Laws
