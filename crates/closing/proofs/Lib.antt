@@ -1,5 +1,4 @@
 mod Examples
-pub mod CaseTruth
 pub mod LiteralTruth
 pub mod FormAtoms
 pub mod TypedForms
@@ -8,7 +7,6 @@ pub mod Completion
 pub mod RowCases
 pub mod RowShape
 pub mod RowTruth
-pub mod Soundness
 pub mod Parts
 pub mod Steps
 pub mod NarrowRows

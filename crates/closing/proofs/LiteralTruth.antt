@@ -11,9 +11,9 @@ use Rattle.tree_forms.specs.Order.{tree_cmp}
 use Rattle.tree_forms.specs.Canonical.{canonical}
 use Rattle.tree_forms.proofs.CanonicalValues.{value-canonical}
 use Rattle.tree_forms.proofs.TreesApart.{tree_cmp-Equal}
-use Rattle.lk_terms.specs.Validity.{no_bounds}
+use Rattle.validity.specs.Validity.{no_bounds}
 use Rattle.closing.specs.Literals.{is_truth, is_negation_with, is_false, are_alike, is_opposite, closed_by_literals}
-use Rattle.closing.proofs.CaseTruth.{IsTrueTree, AllAreTrue}
+use Rattle.read_rules.proofs.ReadCases.{IsTrueTree, AllAreTrue}
 
 -- one of two tests passed
 pub either_true : (a b : Bool) → (a || b) ≡ true → (a ≡ true) ⊎ (b ≡ true)

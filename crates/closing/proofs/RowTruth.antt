@@ -13,7 +13,7 @@ use Rattle.slang_values.specs.declared.operators.Binary.{Binary}
 use Rattle.slang_values.proofs.Equality.{same_type-true, same_value-true}
 use Rattle.tree_forms.specs.Form.{FormPart, form, sum_value, form_value}
 use Rattle.tree_forms.proofs.FormValues.{keeps_form}
-use Rattle.lk_terms.specs.Validity.{no_bounds}
+use Rattle.validity.specs.Validity.{no_bounds}
 use Rattle.lin_rows.specs.Inequality.{Holds, sum_at}
 use Rattle.closing.specs.Rows.{AtomRow, at_most, at_least, eq_rows, difference, rows_of_literal, rows_of_atom, ordered_atoms, completed, numbered_parts, numbered, numbered_rows, rows_of_literals, atom_nodes}
 use Rattle.closing.proofs.TypedForms.{IsNumberTree, number_atoms}
@@ -21,7 +21,7 @@ use Rattle.closing.proofs.AtomOrder.{Among, at_place}
 use Rattle.closing.proofs.RowShape.{IsInShape, in_shape, rest_tree, rest_is_form, at_least_one}
 use Rattle.closing.proofs.RowCases.{quotient_rows, rows_of_division, by_atom, rows_of_equality, by_literal}
 use Rattle.closing.proofs.Completion.{AllRows, all-append, among-ordered, rows_within, completed_keeps}
-use Rattle.closing.proofs.CaseTruth.{IsTrueTree, AllAreTrue}
+use Rattle.read_rules.proofs.ReadCases.{IsTrueTree, AllAreTrue}
 use Rattle.tree_forms.proofs.Settled.{AllAtoms, IsSettled}
 
 quotient_is : (a c : ℤ) → pos 0 <ℤ c → quotient a c ≡ int_div a c

@@ -6,7 +6,7 @@ use Rattle.slang_values.specs.Tree.{Tree, literal, truth_literal, name, bound, u
 use Rattle.slang_values.specs.Typing.{NameTypes, type_of, IsFieldType, IsTyped, EachIsTyped, AreTyped}
 use Rattle.slang_values.specs.declared.operators.Unary.{Unary}
 use Rattle.slang_values.specs.declared.operators.Binary.{Binary}
-use Rattle.lk_terms.proofs.Substitutions.{type_of_typed}
+use Rattle.validity.proofs.TypeOf.{type_of_typed}
 use Rattle.tree_forms.specs.Order.{tree_cmp}
 use Rattle.tree_forms.specs.Form.{FormPart, LinearForm, constant_form, atom_form, plus, scaled, part_term, sum_of_parts, with_constant, form_term, is_constant, product, remainder_form, form, form_terms}
 use Rattle.tree_forms.proofs.Settled.{AllAtoms, atoms-plus, atoms-scaled}

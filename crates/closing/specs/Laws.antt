@@ -1,19 +1,13 @@
--- What holds of closing and of the rows of a case, as one statement each.
+-- What holds of the rows of a case, as one statement.
 use Rattle.std.specs.Prelude.{◌≡◌, ℕ, ◌+◌, List, [], true}
 use Rattle.std.specs.List.{AllByRecursion, Contains}
 use Rattle.slang_values.specs.Value.{Records}
 use Rattle.slang_values.specs.Tree.{Tree}
 use Rattle.slang_values.specs.Typing.{NameTypes}
 use Rattle.tree_forms.specs.Form.{is_narrow}
-use Rattle.lk_terms.specs.Validity.{SequentTree, IsWellSorted, IsValid}
 use Rattle.lin_rows.specs.Inequality.{Inequality, IsCanonical}
 use Rattle.closing.specs.Literals.{are_all_narrow}
 use Rattle.closing.specs.Rows.{rows_of_atom, atoms_in, completed_within, atom_nodes, completed, rows_of_literals, rows_of_case}
-use Rattle.closing.specs.Closing.{closing, closed}
-
--- A well-sorted sequent that is closed is valid: its goal is true wherever its facts are.
-abbrev pub ClosedIsValid : Type 0
-ClosedIsValid = (s : SequentTree) → IsWellSorted s → closing s ≡ closed → IsValid s
 
 -- The rows of a case, whose literals are these.
 pub record AreRows (records : Records) (types : NameTypes ℕ) (literals : List (Tree ℕ)) : Type 0 where

@@ -1,5 +1,3 @@
-pub mod Cases
 pub mod Literals
 pub mod Rows
-pub mod Closing
 pub mod Laws

@@ -1,6 +1,6 @@
-//! When a sequent is closed: definitions over trees, in `specs/`, and their laws.
+//! The literals that close a case, and the rows of a case: definitions over trees, in `specs/`, and their law.
 //!
-//! The functions have no code: each one's contract is a law, so that the check of this crate proves it.
+//! The function has no code: its contract is the law, so that the check of this crate proves it.
 #![tactic(auto)]
 
 pub mod laws;

@@ -22,7 +22,6 @@ use Rattle.instance_rules.specs.Instances.{Instancing, too_many_instances, too_l
 use Rattle.instance_rules.proofs.Instancing.{instances_keep_validity}
 use Rattle.closing.specs.Literals.{is_false, is_opposite, is_narrow_outside, are_all_narrow}
 use Rattle.closing.specs.Rows.{ordered_atoms, completed, rows_of_literals, rows_of_case}
-use Rattle.closing.proofs.CaseTruth as old
 use Rattle.closing.proofs.LiteralTruth.{with_test, alike_trees, closed_literals_are_not_true}
 use Rattle.closing.proofs.RowShape.{case_rows_canonical}
 use Rattle.closing.proofs.RowTruth.{case_rows_true, value_of_place, numbered_rows_hold}
@@ -75,10 +74,6 @@ module _ (records : Records) (fine : AreWellFormed records) (types : NameTypes �
 
   abbrev at : Tree ℕ → Value
   at t = value records names no_bounds t
-
-  as_before : (c : List (Tree ℕ)) → Hold c → old.AllAreTrue records fine types names fit c
-  as_before [] h = tt
-  as_before (t ∷ ts) h = (record { typed = h.0.typed; true_there = h.0.true_there }, as_before ts h.1)
 
   -- an equality of sequences that are alike is true
   equates_true : (op : Binary) (a b : Tree ℕ) → IsTyped records types (binary op a b) truth_type → equates_alike records types op a b ≡ true → truth_of (at (binary op a b)) ≡ true
@@ -133,10 +128,10 @@ module _ (records : Records) (fine : AreWellFormed records) (types : NameTypes �
 
       by_second : (list_any (is_unequal_itself records types) c ≡ true) ⊎ (opposite ≡ true) → ⊥
       by_second (inl k) = let w = with_test Is (is_unequal_itself records types) c h k in unequal_itself_fails w.0 w.1 w.2
-      by_second (inr k) = closed_literals_are_not_true records fine types names fit c (as_before c h) (or_later (list_any is_false c) opposite k)
+      by_second (inr k) = closed_literals_are_not_true records fine types names fit c h (or_later (list_any is_false c) opposite k)
 
       by_first : (list_any is_false c ≡ true) ⊎ ((list_any (is_unequal_itself records types) c || opposite) ≡ true) → ⊥
-      by_first (inl k) = closed_literals_are_not_true records fine types names fit c (as_before c h) (ap (λ b. b || opposite) k)
+      by_first (inl k) = closed_literals_are_not_true records fine types names fit c h (ap (λ b. b || opposite) k)
       by_first (inr k) = by_second (either_bool (list_any (is_unequal_itself records types) c) opposite k)
 
   closed_case_at : (b d : Bool) (c : List (Tree ℕ)) → closed_by_literals records types c ≡ b →
@@ -145,7 +140,7 @@ module _ (records : Records) (fine : AreWellFormed records) (types : NameTypes �
   closed_case_at false true c e h hold =
       Closed-refutes (rows_of_case records types c) (case_rows_canonical records types c) (closed_rows_at (list_all is_within (rows_of_case records types c)) (rows_of_case records types c) h)
       (value_of_place records fine types names fit (ordered_atoms (completed (rows_of_literals records types c))))
-      (numbered_rows_hold records fine types names fit (completed (rows_of_literals records types c)) (case_rows_true records fine types names fit c (as_before c hold)))
+      (numbered_rows_hold records fine types names fit (completed (rows_of_literals records types c)) (case_rows_true records fine types names fit c hold))
   closed_case_at false false c e h hold = absurd (cc)
 
   closed_cases_fail : (cs : List (List (Tree ℕ))) → closing_of_cases records types cs ≡ closed → SomeIn Hold cs → ⊥

@@ -1,4 +1,3 @@
 pub mod Literals
 pub mod Closing
 pub mod Laws
-pub mod AsBefore
