@@ -11,3 +11,4 @@ mod weight;
 
 pub use lexeme::Lexeme;
 pub use read::{NESTS_TOO_DEEP, Tokens, TokensEnd, read_tokens};
+pub use weight::light_len;

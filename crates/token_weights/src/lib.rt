@@ -2,7 +2,6 @@
 #![tactic(auto)]
 
 mod counts;
-mod kinds;
 
 pub use counts::is_light;
 
