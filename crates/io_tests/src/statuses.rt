@@ -1,5 +1,5 @@
 // The statuses of the program over objects in memory.
-use lk_io::{MemSink, MemSource};
+use lk_io::{MemFolder, MemSink, MemSource, NamedBytes};
 use logika_cli::{LIMITS, check_once, end_without_memory, logika_main};
 use std::alloc::Global;
 use std::str;
@@ -27,14 +27,27 @@ fn left(alloc: Global, code: u8, out: &MemSink, journal: &MemSink) -> Result<Str
     Ok(format!(in alloc; "{code}|{out}|{journal}")?)
 }
 
-// The program over the words of a line, of which an empty one has none. The source gives one byte a call, the output takes
-// three and the journal ten.
+fn named(alloc: Global, files: &[(&str, &[u8])]) -> Result<Vec<NamedBytes>, Fail> {
+    let mut named = Vec::new(alloc);
+    for (name, bytes) in files {
+        named.push(NamedBytes {
+            name: String::from_str(alloc, name)?,
+            bytes: Vec::from_slice(alloc, bytes)?,
+        })?;
+    }
+    Ok(named)
+}
+
+// The program over the words of a line, of which an empty one has none, and over these files, of which one read fails. The
+// source gives one byte a call, the output takes three and the journal ten.
 fn run<R>(
     rt: &R,
     alloc: Global,
     line: &str,
     text: &[u8],
     (take, give, tell): Fails,
+    files: &[(&str, &[u8])],
+    read: u64,
 ) -> Result<String, Fail> {
     let mut words = Vec::new(alloc);
     for word in line.split_whitespace() {
@@ -43,7 +56,16 @@ fn run<R>(
     let mut source = source(alloc, text, 1, take)?;
     let mut out = sink(alloc, 3, give)?;
     let mut journal = sink(alloc, 10, tell)?;
-    let status = logika_main(rt, alloc, &words, &mut source, &mut out, &mut journal);
+    let mut folder = MemFolder::new(named(alloc, files)?, Vec::from_slice(alloc, &[read])?);
+    let status = logika_main(
+        rt,
+        alloc,
+        &words,
+        &mut source,
+        &mut out,
+        &mut journal,
+        &mut folder,
+    );
     left(alloc, status.code, &out, &journal)
 }
 
@@ -79,19 +101,22 @@ static FAILING: [(Fails, &str); 15] = [
 #[test]
 fn each_failing_call_has_its_status(rt: HostRuntime) -> Result<(), Fail> {
     for (fails, left) in FAILING.iter() {
-        let run = run(&rt, rt.alloc(), "check", b"\n\n", *fails)?;
+        let run = run(&rt, rt.alloc(), "check", b"\n\n", *fails, &[], NEVER)?;
         assert_eq!(rt; run.as_str(), *left);
     }
     Ok(())
 }
 
-// Each call of the source and the output would fail.
+// Each call of the source, the output and the folder would fail.
 #[test]
 fn other_words_are_refused_and_nothing_is_read(rt: HostRuntime) -> Result<(), Fail> {
     for line in [
         "",
-        "check check",
         "check a.sc a.sc",
+        "check a.sc b.sc a.sc",
+        "check -",
+        "check a.sc -b",
+        "check --",
         "Check",
         "--",
         "session --workers 65",
@@ -99,8 +124,70 @@ fn other_words_are_refused_and_nothing_is_read(rt: HostRuntime) -> Result<(), Fa
         "session --workers 1 --workers=1",
         "run inc",
     ] {
-        let run = run(&rt, rt.alloc(), line, b"\n", (1, 1, NEVER))?;
+        let run = run(&rt, rt.alloc(), line, b"\n", (1, 1, NEVER), &[], 1)?;
         assert_eq!(rt; run.as_str(), "3||logika: words refused\n", "{line}");
+    }
+    Ok(())
+}
+
+// The words behind `check`, the read of the folder that fails, and what comes of it. No take would succeed.
+static FILES: [(&str, u64, &str); 13] = [
+    (
+        "check b.sc a.sc",
+        NEVER,
+        "2|revision 1\na.sc:2:10 E6 unknown name\nb.sc:1:12 E8 type differs\n|",
+    ),
+    (
+        "check empty.sc",
+        NEVER,
+        "0|revision 1\nmethods 0 verified 0\n|",
+    ),
+    (
+        "check empty.sc b.sc",
+        NEVER,
+        "2|revision 1\nb.sc:1:12 E8 type differs\n|",
+    ),
+    ("check none.sc", NEVER, "10||logika: no file none.sc\n"),
+    (
+        "check a.sc none.sc other.sc",
+        NEVER,
+        "10||logika: no file none.sc\n",
+    ),
+    ("check check", NEVER, "10||logika: no file check\n"),
+    ("check a.sc b.sc", 2, "5||logika: read fault\n"),
+    ("check a.sc none.sc", 1, "5||logika: read fault\n"),
+    ("check a.sc none.sc", 2, "5||logika: read fault\n"),
+    ("check none.sc a.sc", 2, "10||logika: no file none.sc\n"),
+    (
+        "check a.sc long.sc none.sc",
+        NEVER,
+        "8||logika: too large long.sc line 3\n",
+    ),
+    (
+        "check none.sc long.sc",
+        NEVER,
+        "10||logika: no file none.sc\n",
+    ),
+    (
+        "check long.sc b.sc",
+        2,
+        "8||logika: too large long.sc line 3\n",
+    ),
+];
+
+// Files are read in the order of the words, and the first that fails, is missing or is too large decides.
+#[test]
+fn the_first_file_that_is_not_read_decides(rt: HostRuntime) -> Result<(), Fail> {
+    let long = blanks(rt.alloc(), 2, 1_048_577)?;
+    let files = [
+        ("a.sc", b"def f(): Z = {\n  return y\n}\n".as_slice()),
+        ("b.sc", b"val t: Z = T\n".as_slice()),
+        ("empty.sc", b"".as_slice()),
+        ("long.sc", long.as_slice()),
+    ];
+    for (line, read, left) in FILES.iter() {
+        let run = run(&rt, rt.alloc(), line, b"", (1, NEVER, NEVER), &files, *read)?;
+        assert_eq!(rt; run.as_str(), *left, "{line} {read}");
     }
     Ok(())
 }
@@ -109,7 +196,8 @@ fn check(alloc: Global, text: &[u8], most: usize, take: u64) -> Result<String, F
     let mut source = source(alloc, text, most, take)?;
     let mut out = sink(alloc, 100, NEVER)?;
     let mut journal = sink(alloc, 100, NEVER)?;
-    let status = check_once(alloc, &mut source, &mut out, &mut journal);
+    let mut folder = MemFolder::new(Vec::new(alloc), Vec::new(alloc));
+    let status = check_once(alloc, &[], &mut source, &mut out, &mut journal, &mut folder);
     left(alloc, status.code, &out, &journal)
 }
 

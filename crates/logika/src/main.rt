@@ -1,8 +1,8 @@
-//! The program `logika`: standard input is the source, standard output the output and standard error the journal, and
-//! the exit code is the status.
+//! The program `logika`: standard input is the source, standard output the output and standard error the journal, files
+//! are those of the system, and the exit code is the status.
 #![tactic(auto)]
 
-use lk_io::{StdSink, StdSource};
+use lk_io::{OsFolder, StdSink, StdSource};
 use logika_cli::{end_without_memory, logika_main};
 use std::io::ErrorKind;
 use std::process::ExitCode;
@@ -32,11 +32,28 @@ fn command(rt: HostRuntime) -> u8 {
     let mut source = StdSource::new(rt.stdin());
     let mut out = StdSink::new(rt.stdout());
     let mut journal = StdSink::new(rt.stderr());
+    let mut folder = OsFolder::new(&rt);
     let status = match words(&rt) {
-        Ok(words) => logika_main(&rt, alloc, &words, &mut source, &mut out, &mut journal),
+        Ok(words) => logika_main(
+            &rt,
+            alloc,
+            &words,
+            &mut source,
+            &mut out,
+            &mut journal,
+            &mut folder,
+        ),
         // A word that is no text is among no words that are read.
         Err(e) if e.kind() == ErrorKind::InvalidData => {
-            logika_main(&rt, alloc, &[], &mut source, &mut out, &mut journal)
+            logika_main(
+                &rt,
+                alloc,
+                &[],
+                &mut source,
+                &mut out,
+                &mut journal,
+                &mut folder,
+            )
         }
         Err(_) => end_without_memory(&mut journal),
     };

@@ -1,53 +1,89 @@
 -- The commands that words name.
-use Rattle.std.proofs.Common.{◌≡◌, ◌≤◌, ◌<◌, ℕ, List, [], ◌∷◌, map, length, get_or, Some, refl, inl, inr, sym, ap, arith}
-use Rattle.lk_io.specs.Source.{SourceState, SourceRun}
+use Rattle.std.proofs.Common.{◌≡◌, ◌≢◌, ℕ, List, [], ◌∷◌, Bool, true, false, IsTrue, Some, refl, sym, ◌∙◌, subst}
+use Rattle.std.specs.Str.{bytes_eq}
+use Rattle.std.specs.List.{IsDistinct}
+use Rattle.std.proofs.lemmas.Bool.{false≢true}
+use Rattle.std.proofs.lemmas.Slice.Eq.{bytes_eq-Decides}
+use Rattle.lk_io.specs.Source.{SourceState}
+use Rattle.lk_io.specs.Folder.{FolderState}
 use Rattle.lk_io.specs.Sink.{SinkState, SinkRun}
 use Rattle.lk_io.specs.Run.{run}
-use Rattle.lk_io.proofs.SourceLaws.{Consumes-none, Tells-front}
-use Rattle.lk_io.proofs.SinkLaws.{Appends-none, IsQuiet-none}
-use Rattle.logika_cli.specs.Journal.{GetsLine, words_line}
-use Rattle.logika_cli.specs.Status.{Due, IsDueOf, End, as_due, read_fault, write_fault, no_memory, refusal, EndsBy, HasStatus}
-use Rattle.logika_cli.specs.Check.{check_command}
-use Rattle.logika_cli.specs.Words.{IsCheck, command_of, refused, check}
+use Rattle.text_reading.specs.Inputs.{Input, Inputs}
+use Rattle.command_ends.specs.Journal.{GetsLine, words_line}
+use Rattle.command_ends.specs.Status.{Due, HasStatus}
+use Rattle.command_ends.proofs.CommandLaws.{HasStatus-into, HasStatus-unread}
+use Rattle.logika_cli.specs.Check.{IsDueOfCheck, check_command}
+use Rattle.logika_cli.specs.Words.{IsFile, IsAnother, AreFiles, IsCheck, AreRefused, IsDueOfWords, command_of}
 use Rattle.text_reading.specs.declared.limits.Limits.{Limits}
 
--- Of one word that is the first.
-pub map-one : {X : Type 0} (f : X → List ℕ) (words : List X) (word : X) → 1 ≤ length words → length words < 2 → word ≡ get_or words 0 word
-    → map f words ≡ f word ∷ []
-map-one f [] word some few is = absurd (omega arith)
-map-one f (x ∷ []) word some few is = ap (λ w. f w ∷ []) (sym is)
-map-one f (x ∷ y ∷ more) word some few is = absurd (omega arith)
+-- ---- names of files
+
+pub AreFiles-none : AreFiles []
+unfolding IsDistinct
+AreFiles-none = record { files = tt; distinct = tt }
+
+pub AreFiles-more : {name : List ℕ} {names : List (List ℕ)} → IsFile name → IsAnother name names → AreFiles names → AreFiles (name ∷ names)
+unfolding IsDistinct
+AreFiles-more is another are = record { files = (is, are.files); distinct = (another, are.distinct) }
+
+pub AreFiles-first : {name : List ℕ} {names : List (List ℕ)} → AreFiles (name ∷ names) → IsFile name × IsAnother name names
+unfolding IsDistinct
+AreFiles-first are = (are.files.0, are.distinct.0)
+
+pub AreFiles-rest : {name : List ℕ} {names : List (List ℕ)} → AreFiles (name ∷ names) → AreFiles names
+unfolding IsDistinct
+AreFiles-rest are = record { files = are.files.1; distinct = are.distinct.1 }
+
+module _ {names left rest : List (List ℕ)} {name text : List ℕ} {new : Bool} (cut : left ≡ name ∷ rest) (same : text ≡ name) where
+  -- The first that is left is no new file.
+  pub ends_false : (AreFiles names → AreFiles left) → new ≡ false → (IsFile text × IsAnother text rest → IsTrue new)
+      → (IsTrue false → AreFiles names) × (AreFiles names → IsTrue false)
+  ends_false back is_false is_new = (
+    λ no. absurd (false≢true no),
+    λ are.
+        let first : IsFile name × IsAnother name rest = AreFiles-first (subst (λ ns. AreFiles ns) cut (back are)) in
+        subst (λ b. IsTrue b) is_false (is_new (subst (λ t. IsFile t × IsAnother t rest) (sym same) first)),
+  )
+
+  -- The first that is left is a new file.
+  pub goes_on : (AreFiles left → AreFiles names) → (AreFiles names → AreFiles left) → new ≡ true → (IsTrue new → IsFile text × IsAnother text rest)
+      → (AreFiles rest → AreFiles names) × (AreFiles names → AreFiles rest)
+  goes_on on back is_true is_new =
+      let first : IsFile name × IsAnother name rest = subst (λ t. IsFile t × IsAnother t rest) same (is_new is_true) in (
+        λ are. on (subst (λ ns. AreFiles ns) (sym cut) (AreFiles-more first.0 first.1 are)),
+        λ are. AreFiles-rest (subst (λ ns. AreFiles ns) cut (back are)),
+      )
+
+-- names that differ
+pub differ : (a b : List ℕ) → a ≢ b → bytes_eq a b ≡ false
+differ a b other = test (bytes_eq a b) refl
+  where
+    test : (same : Bool) → bytes_eq a b ≡ same → bytes_eq a b ≡ false
+    test true e = absurd (other ((bytes_eq-Decides a b).0 e))
+    test false e = e
+
+pub same_name : (a b : List ℕ) → a ≡ b → bytes_eq a b ≡ false → ⊥
+same_name a b same e = false_true (sym e ∙ (bytes_eq-Decides a b).1 same)
+  where
+    false_true : false ≡ true → ⊥
+    false_true h = cc
+
+-- The words are `check` with one list of files.
+pub one_check : {words a b : List (List ℕ)} → IsCheck words a → IsCheck words b → a ≡ b
+one_check {words} {a} {b} first second = tails (sym first.words_are ∙ second.words_are)
+  where
+    tails : {x : List ℕ} → x ∷ a ≡ x ∷ b → a ≡ b
+    tails e = cc
 
 module _ (limits : Limits) (words : List (List ℕ)) where
-  pub HasStatus-check : {source : SourceRun} {out journal : SinkRun} {code : ℕ} → IsCheck words
-      → HasStatus (check_command limits) source out journal code → HasStatus (command_of limits words) source out journal code
-  HasStatus-check {source} {out} {journal} {code} is_check status =
-      record { end = status.end; ends = ends status.end status.ends; code_is = status.code_is; line = status.line }
+  pub HasStatus-check : {names : List (List ℕ)} {inputs : Inputs} {out journal : SinkRun} {code : ℕ} → IsCheck words names
+      → HasStatus (check_command limits names) inputs out journal code → HasStatus (command_of limits words) inputs out journal code
+  HasStatus-check {names} is_check status = HasStatus-into into status
     where
-      due : (d : Due) → IsDueOf (check_command limits) source d → IsDueOf (command_of limits words) source d
-      due d of_check = record { input = of_check.input; told = of_check.told; is_due = check is_check of_check.is_due }
+      into : (input : Input) (due : Due) → IsDueOfCheck limits names input due → IsDueOfWords limits words input due
+      into input due is = IsDueOfWords.check is_check is
 
-      ends : (end : End) → EndsBy (check_command limits) source out end → EndsBy (command_of limits words) source out end
-      ends (as_due d) e = record { is_due = due d e.is_due; read = e.read; given = e.given; handed = e.handed; quiet = e.quiet }
-      ends read_fault e = record { front = e.front; taken = e.taken; text = e.text; earlier = e.earlier; fault = e.fault; given = e.given; quiet = e.quiet }
-      ends write_fault e = record { due = e.due; is_due = due e.due e.is_due; writes = e.writes; read = e.read; given = e.given; fault = e.fault }
-      ends no_memory e = record {
-        read = e.read;
-        cause = elim e.cause [
-          | inl own ↦ inl (record { front = own.front; taken = own.taken; text = own.text; earlier = own.earlier; given = own.given; quiet = own.quiet })
-          | inr text ↦ inr (record { due = text.due; is_due = due text.due text.is_due; writes = text.writes; given = text.given; refusal = text.refusal })
-        ];
-      }
-
-  pub HasStatus-refused : {source : SourceState} {out : SinkState} {journal : SinkRun} {code : ℕ} → ¬ IsCheck words → code ≡ 3
+  pub HasStatus-refused : {source : SourceState} {folder : FolderState} {out : SinkState} {journal : SinkRun} {code : ℕ} → AreRefused words → code ≡ 3
       → GetsLine journal (Some words_line)
-      → HasStatus (command_of limits words) (run source source) (run out out) journal code
-  HasStatus-refused {source} {out} {journal} {code} other code_is line =
-      let input = Tells-front (Consumes-none source) in
-      record {
-        end = as_due (refusal 3 words_line);
-        ends =
-            record { is_due = record { input = input.0; told = input.1; is_due = refused other }; read = refl; given = Appends-none out; handed = λ answers. cc; quiet = IsQuiet-none out };
-        code_is = code_is;
-        line = line;
-      }
+      → HasStatus (command_of limits words) (record { source = run source source; folder = run folder folder }) (run out out) journal code
+  HasStatus-refused other code_is line = HasStatus-unread 3 words_line (λ input. IsDueOfWords.unread other) code_is line

@@ -1,25 +1,18 @@
--- The command `check` over the source.
-use Rattle.std.specs.Prelude.{◌≡◌, ◌≤◌, ℕ, List, [], ◌∷◌, codes}
+-- The command `check` over the files that it names, or over the source where it names none.
+use Rattle.std.specs.Prelude.{◌≤◌, ℕ, List, Ok, Err}
 use Rattle.project_reports.specs.Projects.{NamedText}
 use Rattle.project_reports.specs.Reports.{IsReport}
-use Rattle.text_reading.specs.Limits.{IsWithin, PassesIn}
-use Rattle.logika_cli.specs.Journal.{too_large_line}
-use Rattle.logika_cli.specs.Status.{Due, Command, answer, refusal}
+use Rattle.text_reading.specs.Inputs.{Input}
+use Rattle.text_reading.specs.Texts.{Refusal, TextsReadAs}
+use Rattle.command_ends.specs.Status.{Due, Command, single, answer}
+use Rattle.command_ends.specs.Refusals.{refusal_of}
 use Rattle.text_reading.specs.declared.limits.Limits.{Limits}
 
--- the input as the one text of a project, whose name is `-`
-abbrev pub source_texts : List ℕ → List NamedText
-source_texts input = record { name = codes "-"; bytes = input } ∷ []
+-- Where these files are named, the report on their texts is due as the first revision, with its status, or the refusal of the first that is not read.
+pub data IsDueOfCheck (limits : Limits) (names : List (List ℕ)) (input : Input) : Due → Type 0 where
+  checked : {texts : List NamedText} {text : List ℕ} {code : ℕ} → TextsReadAs limits names input (Ok texts) → IsReport 1 texts text code → code ≤ 2
+      → IsDueOfCheck limits names input (answer text code)
+  refused : {why : Refusal} → TextsReadAs limits names input (Err why) → IsDueOfCheck limits names input (refusal_of why)
 
--- the output of an input: the report on it, as the first revision
-abbrev pub IsOutput : List ℕ → List ℕ → ℕ → Type 0
-IsOutput input text code = IsReport 1 (source_texts input) text code
-
--- Of an input within the limits its output and status are due, and of another the refusal of its first byte past one.
-pub data IsDueOfCheck (limits : Limits) (input : List ℕ) : Due → Type 0 where
-  checked : {text : List ℕ} {code : ℕ} → IsWithin limits input → IsOutput input text code → code ≤ 2 → IsDueOfCheck limits input (answer text code)
-  too_large : {line : ℕ} → PassesIn limits input line → IsDueOfCheck limits input (refusal 8 (too_large_line line))
-
--- The one text of `check` is the whole input, so a front of it has no output.
-abbrev pub check_command : Limits → Command
-check_command limits = record { due = IsDueOfCheck limits; earlier = λ front text. text ≡ [] }
+abbrev pub check_command : Limits → List (List ℕ) → Command
+check_command limits names = single (IsDueOfCheck limits names)

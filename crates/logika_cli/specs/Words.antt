@@ -1,18 +1,44 @@
 -- The words of the command line, without the program's name.
-use Rattle.std.specs.Prelude.{◌≡◌, ℕ, List, [], ◌∷◌, codes}
-use Rattle.logika_cli.specs.Journal.{words_line}
-use Rattle.logika_cli.specs.Status.{Due, Command, refusal}
+use Rattle.std.specs.Prelude.{◌≡◌, ◌≢◌, ℕ, List, [], ◌∷◌, false, codes}
+use Rattle.std.specs.Str.{bytes_eq}
+use Rattle.std.specs.List.{AllByRecursion, IsDistinct}
+use Rattle.text_reading.specs.Inputs.{Input}
+use Rattle.command_ends.specs.Status.{Due, Command, single}
+use Rattle.command_ends.specs.Refusals.{words_refusal}
 use Rattle.logika_cli.specs.Check.{IsDueOfCheck}
 use Rattle.text_reading.specs.declared.limits.Limits.{Limits}
 
--- The words that are read: `check` alone.
-abbrev pub IsCheck : List (List ℕ) → Type 0
-IsCheck words = words ≡ codes "check" ∷ []
+-- the byte of a minus
+abbrev pub minus : ℕ
+minus = 45
+
+-- A word that names a file: it is not empty, and does not begin with a minus.
+abbrev pub IsFile : List ℕ → Type 0
+IsFile [] = ⊥
+IsFile (first ∷ rest) = first ≢ minus
+
+-- The name is none of the others.
+abbrev pub IsAnother : List ℕ → List (List ℕ) → Type 0
+IsAnother name others = AllByRecursion (λ other. bytes_eq name other ≡ false) others
+
+-- Words that name files, none of them twice.
+pub record AreFiles (names : List (List ℕ)) : Type 0 where
+  pub files : AllByRecursion IsFile names
+  pub distinct : IsDistinct bytes_eq names
+
+-- The words that are read: `check`, and behind it names of files.
+pub record IsCheck (words names : List (List ℕ)) : Type 0 where
+  pub words_are : words ≡ codes "check" ∷ names
+  pub names_are : AreFiles names
+
+-- Words that are not read.
+abbrev pub AreRefused : List (List ℕ) → Type 0
+AreRefused words = (names : List (List ℕ)) → ¬ IsCheck words names
 
 -- What is due of these words and this input.
-pub data IsDueOfWords (limits : Limits) (words : List (List ℕ)) (input : List ℕ) : Due → Type 0 where
-  refused : ¬ IsCheck words → IsDueOfWords limits words input (refusal 3 words_line)
-  check : {due : Due} → IsCheck words → IsDueOfCheck limits input due → IsDueOfWords limits words input due
+pub data IsDueOfWords (limits : Limits) (words : List (List ℕ)) (input : Input) : Due → Type 0 where
+  unread : AreRefused words → IsDueOfWords limits words input words_refusal
+  check : {names : List (List ℕ)} {due : Due} → IsCheck words names → IsDueOfCheck limits names input due → IsDueOfWords limits words input due
 
 abbrev pub command_of : Limits → List (List ℕ) → Command
-command_of limits words = record { due = IsDueOfWords limits words; earlier = λ front text. text ≡ [] }
+command_of limits words = single (IsDueOfWords limits words)

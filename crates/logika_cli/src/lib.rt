@@ -1,13 +1,11 @@
-//! The commands of `logika`: words, limits of reading, statuses and the lines of the journal.
+//! The commands of `logika`: their words, and what `check` does.
 #![tactic(auto)]
 
 mod check;
-mod status;
-mod stop;
 mod top;
-mod writing;
+mod words;
 
 pub use check::check_once;
-pub use status::Status;
+pub use command_ends::Status;
 pub use text_reading::{LIMITS, Limits};
 pub use top::{end_without_memory, logika_main};

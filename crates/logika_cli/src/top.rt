@@ -1,66 +1,56 @@
-ghost use Rattle.std.specs.Prelude.{◌≡◌, ◌↔◌, IsTrue, map};
+ghost use Rattle.std.specs.Prelude.{◌≡◌, ◌↔◌, ℕ, List, false, true, map};
 ghost use Rattle.std.specs.String.{string_bytes};
 ghost use Rattle.lk_io.specs.Run.{run};
-ghost use Rattle.logika_cli.specs.Status.{HasStatus};
-ghost use Rattle.logika_cli.specs.Words.{IsCheck, command_of};
 ghost use Rattle.text_reading.specs.Limits.{source_limits};
+ghost use Rattle.command_ends.specs.Status.{HasStatus};
+ghost use Rattle.logika_cli.specs.Words.{AreRefused, IsCheck, command_of};
 ghost use Rattle.logika_cli.specs.Rows.{Rows};
-ghost use Rattle.logika_cli.specs.Journal.{GetsLine, words_line, no_memory_line};
+ghost use Rattle.command_ends.specs.Journal.{GetsLine, words_line, no_memory_line};
 
 use crate::check::check_once;
-use crate::status::{Status, conclude};
-use crate::stop::Stop;
-use lk_io::{Sink, Source};
+use crate::words::named_files;
+use command_ends::{Status, Stop, conclude};
+use lk_io::{Folder, Sink, Source};
 use std::alloc::Global;
 
-/// The program over these words, without its own name: `check` reads the source, and all other words are refused.
-pub fn logika_main<R, S: Source, O: Sink, J: Sink>(
+/// The program over these words, without its own name: `check` reads the files that are named behind it, or the source
+/// where none is, and all other words are refused. The folder must not have missed a file before; afterwards it has
+/// exactly where the status is 10.
+pub fn logika_main<R, S: Source, O: Sink, J: Sink, F: Folder>(
     rt: &R,
     alloc: Global,
     words: &[String],
     source: &mut S,
     out: &mut O,
     journal: &mut J,
+    folder: &mut F,
 ) -> Status
+    requires { (F.state folder.old).missed ≡ false }
     ensures status { HasStatus (command_of source_limits (map string_bytes words.now))
-        (run (S.state source.old) (S.state source.new))
+        (record { source = run (S.state source.old) (S.state source.new); folder = run (F.state folder.old) (F.state folder.new) })
         (run (O.state out.old) (O.state out.new))
         (run (J.state journal.old) (J.state journal.new)) result.code }
 
     // The words are refused exactly where they are not read. Then nothing is read and nothing is given on the output.
-    ensures refused { (result.code ≡ 3) ↔ ¬ IsCheck (map string_bytes words.now) }
-    ensures unread { ¬ IsCheck (map string_bytes words.now) → source.new ≡ source.old }
-    ensures ungiven { ¬ IsCheck (map string_bytes words.now) → out.new ≡ out.old }
-    ensures line { ¬ IsCheck (map string_bytes words.now)
+    ensures refused { (result.code ≡ 3) ↔ AreRefused (map string_bytes words.now) }
+    ensures unread { AreRefused (map string_bytes words.now) → source.new ≡ source.old }
+    ensures unopened { AreRefused (map string_bytes words.now) → folder.new ≡ folder.old }
+    ensures ungiven { AreRefused (map string_bytes words.now) → out.new ≡ out.old }
+    ensures line { AreRefused (map string_bytes words.now)
         → GetsLine (run (J.state journal.old) (J.state journal.new)) (Some words_line) }
 
-    // Else each status tells what its row of `check` says.
-    ensures checks { IsCheck (map string_bytes words.now) → Rows source_limits
-        (run (S.state source.old) (S.state source.new))
+    // Else each status tells what its row of `check` says of the files that are named.
+    ensures checks { (files : List (List ℕ)) → IsCheck (map string_bytes words.now) files → Rows source_limits files
+        (record { source = run (S.state source.old) (S.state source.new); folder = run (F.state folder.old) (F.state folder.new) })
         (run (O.state out.old) (O.state out.new))
         (run (J.state journal.old) (J.state journal.new)) result.code }
+    ensures missed { (result.code ≡ 10) ↔ ((F.state folder.new).missed ≡ true) }
 {
     let _ = rt;
-    if is_check(words) {
-        check_once(alloc, source, out, journal)
-    } else {
-        conclude(Err(Stop::WordsRefused), journal)
+    match named_files(words) {
+        Some(files) => check_once(alloc, files, source, out, journal, folder),
+        None => conclude(Err(Stop::WordsRefused), &[], journal),
     }
-}
-
-fn is_check(words: &[String]) -> bool
-    ensures { IsTrue result ↔ IsCheck (map string_bytes words.now) }
-{
-    match words {
-        [word] => is_named(word.as_str(), "check"),
-        _ => false,
-    }
-}
-
-fn is_named(word: &str, name: &str) -> bool
-    ensures { IsTrue result ↔ (word.now ≡ name.now) }
-{
-    word == name
 }
 
 /// The status where memory ran out before the words were there.
@@ -68,5 +58,5 @@ pub fn end_without_memory<J: Sink>(journal: &mut J) -> Status
     ensures status { result.code ≡ 7 }
     ensures line { GetsLine (run (J.state journal.old) (J.state journal.new)) (Some no_memory_line) }
 {
-    conclude(Err(Stop::NoMemory), journal)
+    conclude(Err(Stop::NoMemory), &[], journal)
 }

@@ -1,0 +1,13 @@
+def base(): Z = {
+  Contract(
+    Ensures(Res >= 4)
+  )
+  return 7
+}
+def top(): Z = {
+  Contract(
+    Ensures(Res >= 6)
+  )
+  val y: Z = base()
+  return y + 1
+}

@@ -1,0 +1,5 @@
+def g(p: B): Z = {
+  return p
+}
+def g(): Unit = {
+}

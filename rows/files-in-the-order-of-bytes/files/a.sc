@@ -1,0 +1,3 @@
+def f(): Z = {
+  return y
+}

@@ -1,0 +1,6 @@
+def base(): Z = {
+  Contract(
+    Ensures(Res >= 5)
+  )
+  return 7
+}

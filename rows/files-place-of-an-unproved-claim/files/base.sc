@@ -1,0 +1,6 @@
+def base(): Z = {
+  Contract(
+    Ensures(Res >= 4)
+  )
+  return 7
+}

@@ -1,0 +1,1 @@
+@datatype class R(x: Z)

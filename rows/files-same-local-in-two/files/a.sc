@@ -1,0 +1,4 @@
+def f(x: Z): Z = {
+  val y: Z = x
+  return y
+}

@@ -1,0 +1,4 @@
+def g(x: B): B = {
+  val y: B = x
+  return y
+}

@@ -1,0 +1,1 @@
+@datatype class Burn(length: Z, rate: Z)

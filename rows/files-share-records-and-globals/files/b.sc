@@ -1,0 +1,2 @@
+val most: Z = 10
+var fuel: Z = 100

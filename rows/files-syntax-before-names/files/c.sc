@@ -1,0 +1,3 @@
+def h(): Unit = {
+  match
+}
