@@ -6,4 +6,6 @@ mod folders;
 #[cfg(test)]
 mod objects;
 #[cfg(test)]
+mod runs;
+#[cfg(test)]
 mod statuses;

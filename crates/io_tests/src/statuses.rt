@@ -40,7 +40,7 @@ fn named(alloc: Global, files: &[(&str, &[u8])]) -> Result<Vec<NamedBytes>, Fail
 
 // The program over the words of a line, of which an empty one has none, and over these files, of which one read fails. The
 // source gives one byte a call, the output takes three and the journal ten.
-fn run<R>(
+pub(crate) fn run<R>(
     rt: &R,
     alloc: Global,
     line: &str,
@@ -122,7 +122,23 @@ fn other_words_are_refused_and_nothing_is_read(rt: HostRuntime) -> Result<(), Fa
         "session --workers 65",
         "session --cache 0",
         "session --workers 1 --workers=1",
+        "run",
         "run inc",
+        "run inc ten 1",
+        "run inc -1 1",
+        "run inc +1 1",
+        "run inc 000000000000000000001 1",
+        "run inc 18446744073709551616 1",
+        "run inc 10 one",
+        "run inc 10 1+1",
+        "run inc 10 1;",
+        "run inc 10 170141183460469231731687303715884105728",
+        "run inc 10 -170141183460469231731687303715884105729",
+        "run inc 10 ISZ()",
+        "run inc 10 Valve()",
+        "run inc 10 Valve(1",
+        "run inc 10 1//",
+        "Run inc 10 1",
     ] {
         let run = run(&rt, rt.alloc(), line, b"\n", (1, 1, NEVER), &[], 1)?;
         assert_eq!(rt; run.as_str(), "3||logika: words refused\n", "{line}");

@@ -1,5 +1,6 @@
 -- The commands that words name.
-use Rattle.std.proofs.Common.{◌≡◌, ◌≢◌, ℕ, List, [], ◌∷◌, Bool, true, false, IsTrue, Some, refl, sym, ◌∙◌, subst}
+use Rattle.std.proofs.Common.{◌≡◌, ◌≢◌, ◌≤◌, ◌⊎◌, ℕ, List, [], ◌∷◌, Bool, true, false, IsTrue, Some, inl, inr, refl, sym, ◌∙◌, subst, arith}
+use Rattle.std.specs.Prelude.{codes}
 use Rattle.std.specs.Str.{bytes_eq}
 use Rattle.std.specs.List.{IsDistinct}
 use Rattle.std.proofs.lemmas.Bool.{false≢true}
@@ -9,11 +10,17 @@ use Rattle.lk_io.specs.Folder.{FolderState}
 use Rattle.lk_io.specs.Sink.{SinkState, SinkRun}
 use Rattle.lk_io.specs.Run.{run}
 use Rattle.text_reading.specs.Inputs.{Input, Inputs}
-use Rattle.command_ends.specs.Journal.{GetsLine, words_line}
-use Rattle.command_ends.specs.Status.{Due, HasStatus}
+use Rattle.command_ends.specs.Journal.{GetsLine, words_line, no_memory_line}
+use Rattle.command_ends.specs.Status.{Due, single, no_memory, HasStatus}
 use Rattle.command_ends.proofs.CommandLaws.{HasStatus-into, HasStatus-unread}
+use Rattle.command_ends.proofs.EndLaws.{EndsBy-no_memory}
+use Rattle.lk_io.proofs.SourceLaws.{Consumes-none}
+use Rattle.run_words.specs.Run.{Run, IsRun}
+use Rattle.run_source.specs.Run.{IsDueOfRun, run_command}
+use Rattle.run_source.specs.Rows as run_rows
+use Rattle.run_source.proofs.RowLaws.{Rows-status}
 use Rattle.logika_cli.specs.Check.{IsDueOfCheck, check_command}
-use Rattle.logika_cli.specs.Words.{IsFile, IsAnother, AreFiles, IsCheck, AreRefused, IsDueOfWords, command_of}
+use Rattle.logika_cli.specs.Words.{IsFile, IsAnother, AreFiles, IsCheck, AreNoCheck, AreRefused, BeginRun, IsDueOfWords, command_of}
 use Rattle.text_reading.specs.declared.limits.Limits.{Limits}
 
 -- ---- names of files
@@ -83,7 +90,73 @@ module _ (limits : Limits) (words : List (List ℕ)) where
       into : (input : Input) (due : Due) → IsDueOfCheck limits names input due → IsDueOfWords limits words input due
       into input due is = IsDueOfWords.check is_check is
 
+  pub HasStatus-run : {asked : Run} {inputs : Inputs} {out journal : SinkRun} {code : ℕ} → IsRun words asked
+      → HasStatus (run_command limits asked.method asked.turns asked.arguments) inputs out journal code
+      → HasStatus (command_of limits words) inputs out journal code
+  HasStatus-run {asked} is_run status = HasStatus-into into status
+    where
+      into : (input : Input) (due : Due) → IsDueOfRun limits asked.method asked.turns asked.arguments input due → IsDueOfWords limits words input due
+      into input due is = IsDueOfWords.run is_run is
+
   pub HasStatus-refused : {source : SourceState} {folder : FolderState} {out : SinkState} {journal : SinkRun} {code : ℕ} → AreRefused words → code ≡ 3
       → GetsLine journal (Some words_line)
       → HasStatus (command_of limits words) (record { source = run source source; folder = run folder folder }) (run out out) journal code
   HasStatus-refused other code_is line = HasStatus-unread 3 words_line (λ input. IsDueOfWords.unread other) code_is line
+
+-- Memory ran out before anything was read.
+pub HasStatus-no_memory : (due : Input → Due → Type 0) {source : SourceState} {folder : FolderState} {out : SinkState} {journal : SinkRun} {code : ℕ}
+    → code ≡ 7 → GetsLine journal (Some no_memory_line)
+    → HasStatus (single due) (record { source = run source source; folder = run folder folder }) (run out out) journal code
+HasStatus-no_memory due {source} {folder} {out} code_is line = record {
+  end = no_memory;
+  ends = EndsBy-no_memory due (record { source = run source source; folder = run folder folder })
+      (record { front = []; taken = Consumes-none source; no_fault = record { source = refl; folder = refl } }) out;
+  code_is = code_is;
+  line = line;
+}
+
+-- the rows of a run that was not begun, since memory ran out
+pub Rows-no_memory : (limits : Limits) (asked : Run) {source : SourceState} {folder : FolderState} {out : SinkState} {journal : SinkRun} {code : ℕ}
+    → code ≡ 7 → GetsLine journal (Some no_memory_line)
+    → run_rows.Rows limits asked.method asked.turns asked.arguments (record { source = run source source; folder = run folder folder }) (run out out)
+    journal code
+Rows-no_memory limits asked code_is line =
+    Rows-status (HasStatus-no_memory (IsDueOfRun limits asked.method asked.turns asked.arguments) code_is line)
+
+-- No run has the status of a file that there is not.
+pub other_status : {limits : Limits} {method : List ℕ} {turns : ℕ} {arguments : List (List ℕ)} {inputs : Inputs} {out journal : SinkRun} {code : ℕ}
+    → run_rows.Rows limits method turns arguments inputs out journal code → code ≢ 10
+other_status {code = code} rows is = at rows.only
+  where
+    at : (code ≤ 2) ⊎ ((5 ≤ code) × (code ≤ 9)) ⊎ (code ≡ 11) → ⊥
+    at (inl small) = omega (arith, small, is)
+    at (inr (inl middle)) = omega (arith, middle.1, is)
+    at (inr (inr last)) = omega (arith, last, is)
+
+-- nor has it that of words that are refused
+pub no_refusal : {limits : Limits} {method : List ℕ} {turns : ℕ} {arguments : List (List ℕ)} {inputs : Inputs} {out journal : SinkRun} {code : ℕ}
+    → run_rows.Rows limits method turns arguments inputs out journal code → code ≡ 3 → ⊥
+no_refusal {code = code} rows is = at rows.only
+  where
+    at : (code ≤ 2) ⊎ ((5 ≤ code) × (code ≤ 9)) ⊎ (code ≡ 11) → ⊥
+    at (inl small) = omega (arith, small, is)
+    at (inr (inl middle)) = omega (arith, middle.0, is)
+    at (inr (inr last)) = omega (arith, last, is)
+
+-- The words of `check` are no words of `run`.
+pub no_run_of_check : {words names : List (List ℕ)} {asked : Run} → IsCheck words names → IsRun words asked → ⊥
+no_run_of_check check run = apart (sym check.words_are ∙ run.words_are)
+  where
+    apart : {x y : List (List ℕ)} → codes "check" ∷ x ≡ codes "run" ∷ y → ⊥
+    apart e = cc
+
+-- What is told of one run is told of each that the words are.
+pub of_each : {words : List (List ℕ)} {one asked : Run} (P : Run → Type 0) → ((a : Run) → IsRun words a → a ≡ one) → P one → IsRun words asked → P asked
+of_each P only h is = subst P (sym (only _ is)) h
+
+-- Words that do not begin so are none of a run.
+pub AreRefused-others : {words : List (List ℕ)} → AreNoCheck words → (BeginRun words → ⊥) → AreRefused words
+AreRefused-others {words} no_check other = record { no_check = no_check; no_run = λ asked is. other (begin asked is) }
+  where
+    begin : (asked : Run) → IsRun words asked → BeginRun words
+    begin asked is = record { rest = asked.method ∷ is.count ∷ asked.arguments; words_are = is.words_are }

@@ -1,10 +1,10 @@
 ghost use Rattle.std.specs.Prelude.{◌≡◌, ◌↔◌, IsTrue, MatchOption, map};
 ghost use Rattle.std.specs.String.{string_bytes};
-ghost use Rattle.logika_cli.specs.Words.{AreFiles, AreRefused, IsAnother, IsCheck, IsFile};
+ghost use Rattle.logika_cli.specs.Words.{AreFiles, AreNoCheck, BeginRun, IsAnother, IsCheck, IsFile};
 
 /// The files that the words name, where they are those of `check`.
 pub(crate) fn named_files(words: &[String]) -> Option<&[String]>
-    ensures { MatchOption result (AreRefused (map string_bytes words.now))
+    ensures { MatchOption result (AreNoCheck (map string_bytes words.now))
         (λ files. IsCheck (map string_bytes words.now) (map string_bytes files.now)) }
 {
     match words.split_first() {
@@ -16,6 +16,16 @@ pub(crate) fn named_files(words: &[String]) -> Option<&[String]>
             }
         }
         None => None,
+    }
+}
+
+/// Whether the words begin with `run`.
+pub(crate) fn begin_run(words: &[String]) -> bool
+    ensures { IsTrue result ↔ BeginRun (map string_bytes words.now) }
+{
+    match words.split_first() {
+        Some((word, _)) => is_named(word.as_str(), "run"),
+        None => false,
     }
 }
 
