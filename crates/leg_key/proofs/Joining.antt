@@ -34,7 +34,7 @@ list_bytes-map : {A B : Type 0} (f : B → List ℕ) (g : A → B) (xs : List A)
 list_bytes-map f g xs =
     ap (λ n. number_bytes n ++ flat_map f (map g xs)) (length-map xs g) ∙ ap (λ l. number_bytes (length xs) ++ l) (flat_map-map f g xs)
 
-parts_count : (claims : List Claim) → length claims ≡ length (tree_list (claim_trees claims))
+pub parts_count : (claims : List Claim) → length claims ≡ length (tree_list (claim_trees claims))
 parts_count [] = refl
 parts_count (c ∷ cs) = ap (λ n. suc n) (parts_count cs)
 
@@ -49,7 +49,7 @@ parts_key claims =
     ap (λ n. number_bytes n ++ flat_map claim_key claims) (parts_count claims)
     ∙ ap (λ l. number_bytes (length (tree_list (claim_trees claims))) ++ l) (parts_flat claims)
 
-steps_count : (steps : List ProofStep) → length steps ≡ length (step_list (step_trees steps))
+pub steps_count : (steps : List ProofStep) → length steps ≡ length (step_list (step_trees steps))
 steps_count [] = refl
 steps_count (step ∷ steps) = ap (λ n. suc n) (steps_count steps)
 

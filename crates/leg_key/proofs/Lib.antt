@@ -1,3 +1,4 @@
 pub mod Joining
 pub mod Sizes
 pub mod Decoded
+pub mod Fitting

@@ -3,6 +3,7 @@ use Rattle.std.specs.Prelude.{ℕ, Bool, List, ◌∷◌, ◌++◌}
 use Rattle.slang_values.specs.Tree.{listed, sequence_of, record_of}
 use Rattle.program_trees.specs.Claims.{line, block}
 use Rattle.key_rules.specs.Codes.{flag_code}
+use Rattle.key_rules.specs.Fits.{FitsItem, FitsList, FitsType}
 use Rattle.key_rules.specs.Writing.{number_bytes, list_bytes, type_bytes, claim_bytes, step_bytes, item_bytes}
 use Rattle.lk_claims.specs.declared.ty.Ty.{Ty}
 use Rattle.lk_claims.specs.declared.claim.Claim.{Claim}
@@ -49,3 +50,9 @@ item_key item = item_bytes (item_tree item)
 -- of a leg by its lists
 abbrev pub lists_key : List (List Ty) → List Ty → List Item → List ℕ
 lists_key records types items = 1 ∷ (list_bytes fields_key records ++ (list_bytes type_key types ++ list_bytes item_key items))
+
+-- the parts of a leg have bytes
+abbrev pub FitLists : List (List Ty) → List Ty → List Item → Type 0
+FitLists records types items =
+    FitsList (FitsList (λ ty. FitsType (value_type ty))) records × FitsList (λ ty. FitsType (value_type ty)) types
+    × FitsList (λ item. FitsItem (item_tree item)) items

@@ -1,5 +1,6 @@
 ghost use Rattle.std.specs.Prelude.{◌≡◌, ◌<◌, ◌^◌, ◌++◌, ◌∷◌, [], length, OnOk};
 ghost use Rattle.std.specs.Result.{OkIff};
+ghost use Rattle.key_rules.specs.Fits.{FitsList, FitsNumber};
 ghost use Rattle.key_rules.specs.Writing.{number_bytes, literal_bytes, list_bytes};
 
 use crate::NoMemory;
@@ -39,14 +40,16 @@ fn number(length: usize) -> Result<u32, NoMemory>
 
 /// Adds the length of a list at the end of a key.
 pub fn add_length(length: usize, key: &mut Vec<u8>) -> Result<(), NoMemory>
-    ensures { OnOk result (key.new.items ≡ key.old.items ++ number_bytes length) }
+    ensures written { OnOk result (key.new.items ≡ key.old.items ++ number_bytes length) }
+    ensures fits { OnOk result (FitsNumber length) }
 {
     add_number(number(length)?, key)
 }
 
 /// Adds a list of numbers at the end of a key.
 pub fn add_numbers(numbers: &[u32], key: &mut Vec<u8>) -> Result<(), NoMemory>
-    ensures { OnOk result (key.new.items ≡ key.old.items ++ list_bytes number_bytes numbers.now) }
+    ensures written { OnOk result (key.new.items ≡ key.old.items ++ list_bytes number_bytes numbers.now) }
+    ensures fits { OnOk result (FitsList FitsNumber numbers.now) }
 {
     add_length(numbers.len(), key)?;
     for number in numbers {

@@ -1,7 +1,8 @@
 ghost use Rattle.std.specs.Prelude.{◌≡◌, ◌++◌, ◌∷◌, OnOk};
-ghost use Rattle.slang_values.specs.Tree.{literal, unary};
+ghost use Rattle.slang_values.specs.Tree.{literal, unary, listed, sequence_of, record_of};
+ghost use Rattle.key_rules.specs.Fits.{FitsClaim, FitsList, FitsNumber};
 ghost use Rattle.key_rules.specs.Writing.{number_bytes, claim_bytes, list_bytes};
-ghost use Rattle.lk_claims.specs.Claim.{claim_tree};
+ghost use Rattle.lk_claims.specs.Claim.{claim_tree, claim_trees, value_type};
 ghost use Rattle.leg_key.specs.Parts.{claim_key, sequence_key, record_key};
 
 use crate::bytes::{add_byte, add_length, add_number, add_wide_number};
@@ -13,7 +14,8 @@ use slang_values::Unary;
 /// Adds a claim at the end of a key.
 #[cycle(claims)]
 pub fn add_claim(claim: &Claim, key: &mut Vec<u8>) -> Result<(), NoMemory>
-    ensures { OnOk result (key.new.items ≡ key.old.items ++ claim_key claim.now) }
+    ensures written { OnOk result (key.new.items ≡ key.old.items ++ claim_key claim.now) }
+    ensures fits { OnOk result (FitsClaim (claim_tree claim.now)) }
 {
     match claim.shape() {
         Shape::Literal(z) => add_literal(z, key),
@@ -34,14 +36,16 @@ pub fn add_claim(claim: &Claim, key: &mut Vec<u8>) -> Result<(), NoMemory>
 }
 
 fn add_literal(z: i128, key: &mut Vec<u8>) -> Result<(), NoMemory>
-    ensures { OnOk result (key.new.items ≡ key.old.items ++ claim_bytes (literal z)) }
+    ensures written { OnOk result (key.new.items ≡ key.old.items ++ claim_bytes (literal z)) }
+    ensures fits { OnOk result (FitsClaim (literal z)) }
 {
     add_byte(codes::LITERAL, key)?;
     add_wide_number(z, key)
 }
 
 fn add_name(code: u8, number: u32, key: &mut Vec<u8>) -> Result<(), NoMemory>
-    ensures { OnOk result (key.new.items ≡ key.old.items ++ code ∷ number_bytes number) }
+    ensures written { OnOk result (key.new.items ≡ key.old.items ++ code ∷ number_bytes number) }
+    ensures fits { OnOk result (FitsNumber number) }
 {
     add_byte(code, key)?;
     add_number(number, key)
@@ -49,7 +53,8 @@ fn add_name(code: u8, number: u32, key: &mut Vec<u8>) -> Result<(), NoMemory>
 
 #[cycle(claims)]
 fn add_unary(op: Unary, a: &Claim, key: &mut Vec<u8>) -> Result<(), NoMemory>
-    ensures { OnOk result (key.new.items ≡ key.old.items ++ claim_bytes (unary op (claim_tree a.now))) }
+    ensures written { OnOk result (key.new.items ≡ key.old.items ++ claim_bytes (unary op (claim_tree a.now))) }
+    ensures fits { OnOk result (FitsClaim (unary op (claim_tree a.now))) }
 {
     match op {
         Unary::Neg => add_one(codes::NEG, a, key),
@@ -64,7 +69,8 @@ fn add_unary(op: Unary, a: &Claim, key: &mut Vec<u8>) -> Result<(), NoMemory>
 
 #[cycle(claims)]
 fn add_one(code: u8, a: &Claim, key: &mut Vec<u8>) -> Result<(), NoMemory>
-    ensures { OnOk result (key.new.items ≡ key.old.items ++ code ∷ claim_key a.now) }
+    ensures written { OnOk result (key.new.items ≡ key.old.items ++ code ∷ claim_key a.now) }
+    ensures fits { OnOk result (FitsClaim (claim_tree a.now)) }
 {
     add_byte(code, key)?;
     add_claim(a, key)
@@ -72,7 +78,8 @@ fn add_one(code: u8, a: &Claim, key: &mut Vec<u8>) -> Result<(), NoMemory>
 
 #[cycle(claims)]
 fn add_two(code: u8, a: &Claim, b: &Claim, key: &mut Vec<u8>) -> Result<(), NoMemory>
-    ensures { OnOk result (key.new.items ≡ key.old.items ++ code ∷ (claim_key a.now ++ claim_key b.now)) }
+    ensures written { OnOk result (key.new.items ≡ key.old.items ++ code ∷ (claim_key a.now ++ claim_key b.now)) }
+    ensures fits { OnOk result (FitsClaim (claim_tree a.now) × FitsClaim (claim_tree b.now)) }
 {
     add_one(code, a, key)?;
     add_claim(b, key)
@@ -80,7 +87,8 @@ fn add_two(code: u8, a: &Claim, b: &Claim, key: &mut Vec<u8>) -> Result<(), NoMe
 
 #[cycle(claims)]
 fn add_three(code: u8, a: &Claim, b: &Claim, c: &Claim, key: &mut Vec<u8>) -> Result<(), NoMemory>
-    ensures { OnOk result (key.new.items ≡ key.old.items ++ code ∷ (claim_key a.now ++ (claim_key b.now ++ claim_key c.now))) }
+    ensures written { OnOk result (key.new.items ≡ key.old.items ++ code ∷ (claim_key a.now ++ (claim_key b.now ++ claim_key c.now))) }
+    ensures fits { OnOk result (FitsClaim (claim_tree a.now) × FitsClaim (claim_tree b.now) × FitsClaim (claim_tree c.now)) }
 {
     add_two(code, a, b, key)?;
     add_claim(c, key)
@@ -88,7 +96,8 @@ fn add_three(code: u8, a: &Claim, b: &Claim, c: &Claim, key: &mut Vec<u8>) -> Re
 
 #[cycle(claims)]
 fn add_sequence(element: &Ty, parts: &[Claim], key: &mut Vec<u8>) -> Result<(), NoMemory>
-    ensures { OnOk result (key.new.items ≡ key.old.items ++ sequence_key element.now parts.now) }
+    ensures written { OnOk result (key.new.items ≡ key.old.items ++ sequence_key element.now parts.now) }
+    ensures fits { OnOk result (FitsClaim (listed (sequence_of (value_type element.now)) (claim_trees parts.now))) }
 {
     add_byte(codes::SEQUENCE_LITERAL, key)?;
     add_type(element, key)?;
@@ -97,7 +106,8 @@ fn add_sequence(element: &Ty, parts: &[Claim], key: &mut Vec<u8>) -> Result<(), 
 
 #[cycle(claims)]
 fn add_record(number: u32, parts: &[Claim], key: &mut Vec<u8>) -> Result<(), NoMemory>
-    ensures { OnOk result (key.new.items ≡ key.old.items ++ record_key number parts.now) }
+    ensures written { OnOk result (key.new.items ≡ key.old.items ++ record_key number parts.now) }
+    ensures fits { OnOk result (FitsClaim (listed (record_of number) (claim_trees parts.now))) }
 {
     add_name(codes::RECORD_LITERAL, number, key)?;
     add_parts(parts, key)
@@ -106,7 +116,8 @@ fn add_record(number: u32, parts: &[Claim], key: &mut Vec<u8>) -> Result<(), NoM
 #[cycle(claims)]
 #[tactic(auto, using(lk_claims::proofs::Sizes::deepest_lines))]
 fn add_parts(parts: &[Claim], key: &mut Vec<u8>) -> Result<(), NoMemory>
-    ensures { OnOk result (key.new.items ≡ key.old.items ++ list_bytes claim_key parts.now) }
+    ensures written { OnOk result (key.new.items ≡ key.old.items ++ list_bytes claim_key parts.now) }
+    ensures fits { OnOk result (FitsList (λ part. FitsClaim (claim_tree part)) parts.now) }
 {
     add_length(parts.len(), key)?;
     for part in parts {

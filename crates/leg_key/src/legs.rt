@@ -1,9 +1,13 @@
-ghost use Rattle.std.specs.Prelude.{◌≡◌, ◌++◌, OnOk, IfOk};
+ghost use Rattle.std.specs.Prelude.{◌≡◌, ◌++◌, true, OnOk, IfOk};
 ghost use Rattle.program_trees.specs.Legs.{proof};
+ghost use Rattle.leg_forms.specs.WellFormed.{is_checked};
+ghost use Rattle.key_rules.specs.Codes.{kind_code};
+ghost use Rattle.key_rules.specs.Fits.{FitsItem, FitsLeg, FitsList, FitsType};
 ghost use Rattle.key_rules.specs.Writing.{encode as key_of, item_bytes, list_bytes};
+ghost use Rattle.lk_claims.specs.Claim.{value_type};
 ghost use Rattle.lk_claims.specs.Step.{step_trees};
-ghost use Rattle.lk_programs.specs.LegData.{leg_tree};
-ghost use Rattle.leg_key.specs.Parts.{fields_key, item_key, lists_key};
+ghost use Rattle.lk_programs.specs.LegData.{item_tree, leg_tree};
+ghost use Rattle.leg_key.specs.Parts.{fields_key, item_key, lists_key, FitLists};
 
 use crate::bytes::{add_byte, add_length, add_number, add_numbers};
 use crate::claims::add_claim;
@@ -12,11 +16,24 @@ use crate::types::add_types;
 use crate::{NoMemory, codes};
 use lk_claims::{ProofStep, Ty};
 use lk_programs::{Item, Leg};
+use program_trees::Kind;
 use sqlite_items::Items;
-use std::alloc::Global;
+use std::alloc::{AllocError, Global};
+
+/// The code of a kind that a check may be of. The two that only a proof has are refused.
+fn checked_kind(kind: Kind) -> Result<u8, NoMemory>
+    ensures code { IfOk result (λ code. code ≡ kind_code kind) }
+    ensures checked { OnOk result (is_checked kind ≡ true) }
+{
+    match kind {
+        Kind::Deduce | Kind::Term => Err(AllocError),
+        _ => Ok(codes::kind(kind)),
+    }
+}
 
 fn add_item(item: &Item, key: &mut Vec<u8>) -> Result<(), NoMemory>
-    ensures { OnOk result (key.new.items ≡ key.old.items ++ item_key item.now) }
+    ensures written { OnOk result (key.new.items ≡ key.old.items ++ item_key item.now) }
+    ensures fits { OnOk result (FitsItem (item_tree item.now)) }
 {
     match item {
         Item::Assume(claim) => {
@@ -25,7 +42,7 @@ fn add_item(item: &Item, key: &mut Vec<u8>) -> Result<(), NoMemory>
         }
         Item::Check(kind, claim) => {
             add_byte(codes::CHECK, key)?;
-            add_byte(codes::kind(*kind), key)?;
+            add_byte(checked_kind(*kind)?, key)?;
             add_claim(claim, key)
         }
         Item::Set(variable, claim) => {
@@ -42,14 +59,16 @@ fn add_item(item: &Item, key: &mut Vec<u8>) -> Result<(), NoMemory>
 }
 
 fn add_proof(steps: &[ProofStep], key: &mut Vec<u8>) -> Result<(), NoMemory>
-    ensures { OnOk result (key.new.items ≡ key.old.items ++ item_bytes (proof (step_trees steps.now))) }
+    ensures written { OnOk result (key.new.items ≡ key.old.items ++ item_bytes (proof (step_trees steps.now))) }
+    ensures fits { OnOk result (FitsItem (proof (step_trees steps.now))) }
 {
     add_byte(codes::PROOF, key)?;
     add_steps(steps, key)
 }
 
 fn add_items(items: &[Item], key: &mut Vec<u8>) -> Result<(), NoMemory>
-    ensures { OnOk result (key.new.items ≡ key.old.items ++ list_bytes item_key items.now) }
+    ensures written { OnOk result (key.new.items ≡ key.old.items ++ list_bytes item_key items.now) }
+    ensures fits { OnOk result (FitsList (λ item. FitsItem (item_tree item)) items.now) }
 {
     add_length(items.len(), key)?;
     for item in items {
@@ -59,7 +78,8 @@ fn add_items(items: &[Item], key: &mut Vec<u8>) -> Result<(), NoMemory>
 }
 
 fn add_records(records: &[Items<Ty>], key: &mut Vec<u8>) -> Result<(), NoMemory>
-    ensures { OnOk result (key.new.items ≡ key.old.items ++ list_bytes fields_key records.now) }
+    ensures written { OnOk result (key.new.items ≡ key.old.items ++ list_bytes fields_key records.now) }
+    ensures fits { OnOk result (FitsList (FitsList (λ ty. FitsType (value_type ty))) records.now) }
 {
     add_length(records.len(), key)?;
     for fields in records {
@@ -74,7 +94,8 @@ fn add_lists(
     items: &[Item],
     key: &mut Vec<u8>,
 ) -> Result<(), NoMemory>
-    ensures { OnOk result (key.new.items ≡ key.old.items ++ lists_key records.now types.now items.now) }
+    ensures written { OnOk result (key.new.items ≡ key.old.items ++ lists_key records.now types.now items.now) }
+    ensures fits { OnOk result (FitLists records.now types.now items.now) }
 {
     add_byte(codes::PROFILE, key)?;
     add_records(records, key)?;
@@ -83,7 +104,8 @@ fn add_lists(
 }
 
 fn add_leg(leg: &Leg, key: &mut Vec<u8>) -> Result<(), NoMemory>
-    ensures { OnOk result (key.new.items ≡ key.old.items ++ key_of (leg_tree leg.now)) }
+    ensures written { OnOk result (key.new.items ≡ key.old.items ++ key_of (leg_tree leg.now)) }
+    ensures fits { OnOk result (FitsLeg (leg_tree leg.now)) }
 {
     add_lists(
         leg.records.as_slice(),
@@ -93,9 +115,10 @@ fn add_leg(leg: &Leg, key: &mut Vec<u8>) -> Result<(), NoMemory>
     )
 }
 
-/// The key of a leg.
+/// The key of a leg. A list that is longer than a key can say is refused.
 pub fn encode(alloc: Global, leg: &Leg) -> Result<Vec<u8>, NoMemory>
-    ensures { IfOk result (λ key. key.items ≡ key_of (leg_tree leg.now)) }
+    ensures written { IfOk result (λ key. key.items ≡ key_of (leg_tree leg.now)) }
+    ensures fits { OnOk result (FitsLeg (leg_tree leg.now)) }
 {
     let mut key = Vec::new(alloc);
     add_leg(leg, &mut key)?;

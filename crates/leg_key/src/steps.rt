@@ -1,5 +1,9 @@
 ghost use Rattle.std.specs.Prelude.{◌≡◌, ◌++◌, OnOk};
+ghost use Rattle.program_trees.specs.Claims.{line, block};
+ghost use Rattle.key_rules.specs.Fits.{FitsList, FitsNumber, FitsStep};
 ghost use Rattle.key_rules.specs.Writing.{list_bytes};
+ghost use Rattle.lk_claims.specs.Claim.{claim_tree};
+ghost use Rattle.lk_claims.specs.Step.{step_tree, step_trees};
 ghost use Rattle.leg_key.specs.Parts.{step_key, line_key, block_key, block_head_key};
 
 use crate::bytes::{add_byte, add_length, add_number, add_numbers};
@@ -11,7 +15,8 @@ use lk_claims::{Claim, ProofStep};
 #[cycle(steps)]
 #[tactic(auto, using(crate::proofs::Sizes::size_lines, lk_claims::proofs::Steps::step_lines))]
 fn add_step(step: &ProofStep, key: &mut Vec<u8>) -> Result<(), NoMemory>
-    ensures { OnOk result (key.new.items ≡ key.old.items ++ step_key step.now) }
+    ensures written { OnOk result (key.new.items ≡ key.old.items ++ step_key step.now) }
+    ensures fits { OnOk result (FitsStep (step_tree step.now)) }
 {
     match step {
         ProofStep::Line {
@@ -37,7 +42,8 @@ fn add_line(
     cites: &[u32],
     key: &mut Vec<u8>,
 ) -> Result<(), NoMemory>
-    ensures { OnOk result (key.new.items ≡ key.old.items ++ line_key label claim.now rule cites.now) }
+    ensures written { OnOk result (key.new.items ≡ key.old.items ++ line_key label claim.now rule cites.now) }
+    ensures fits { OnOk result (FitsStep (line label (claim_tree claim.now) rule cites.now)) }
 {
     add_byte(codes::LINE, key)?;
     add_number(label, key)?;
@@ -47,7 +53,8 @@ fn add_line(
 }
 
 fn add_block_head(label: u32, bind: bool, assumed: u32, key: &mut Vec<u8>) -> Result<(), NoMemory>
-    ensures { OnOk result (key.new.items ≡ key.old.items ++ block_head_key label bind assumed) }
+    ensures written { OnOk result (key.new.items ≡ key.old.items ++ block_head_key label bind assumed) }
+    ensures fits { OnOk result (FitsNumber label × FitsNumber assumed) }
 {
     add_byte(codes::BLOCK, key)?;
     add_number(label, key)?;
@@ -64,7 +71,8 @@ fn add_block(
     steps: &[ProofStep],
     key: &mut Vec<u8>,
 ) -> Result<(), NoMemory>
-    ensures { OnOk result (key.new.items ≡ key.old.items ++ block_key label bind assumed claim.now steps.now) }
+    ensures written { OnOk result (key.new.items ≡ key.old.items ++ block_key label bind assumed claim.now steps.now) }
+    ensures fits { OnOk result (FitsStep (block label bind assumed (claim_tree claim.now) (step_trees steps.now))) }
 {
     add_block_head(label, bind, assumed, key)?;
     add_claim(claim, key)?;
@@ -75,7 +83,8 @@ fn add_block(
 #[cycle(steps)]
 #[tactic(auto, using(crate::proofs::Sizes::size_lines))]
 pub fn add_steps(steps: &[ProofStep], key: &mut Vec<u8>) -> Result<(), NoMemory>
-    ensures { OnOk result (key.new.items ≡ key.old.items ++ list_bytes step_key steps.now) }
+    ensures written { OnOk result (key.new.items ≡ key.old.items ++ list_bytes step_key steps.now) }
+    ensures fits { OnOk result (FitsList (λ step. FitsStep (step_tree step)) steps.now) }
 {
     add_length(steps.len(), key)?;
     for step in steps {

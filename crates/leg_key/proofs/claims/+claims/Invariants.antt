@@ -1,8 +1,10 @@
 use Rattle.std.proofs.Common.{◌≡◌, ◌+◌, ◌*◌, ◌++◌, max, length, take}
-use Rattle.std.specs.List.{flat_map}
+use Rattle.std.specs.List.{AllByRecursion, flat_map}
 use Rattle.lk_claims.specs.declared.claim.Claim.{size-Claim}
 use Rattle.lk_claims.specs.Shape.{deepest}
+use Rattle.key_rules.specs.Fits.{FitsClaim}
 use Rattle.key_rules.specs.Writing.{number_bytes}
+use Rattle.lk_claims.specs.Claim.{claim_tree}
 use Rattle.leg_key.specs.Parts.{claim_key}
 use Rattle.leg_key.proofs.claims.+claims.Given as goal
 
@@ -31,4 +33,7 @@ abbrev pub decreases-add_parts : goal.decreases-add_parts
 decreases-add_parts l = 4 * deepest l.parts.now + 1
 
 abbrev pub invariant-add_parts-loop-part : goal.invariant-add_parts-loop-part
-invariant-add_parts-loop-part l = l.key.items ≡ l.fn.key.items ++ (number_bytes (length l.parts) ++ flat_map claim_key (take l.part-index l.parts))
+invariant-add_parts-loop-part l = record {
+  written : l.key.items ≡ l.fn.key.items ++ (number_bytes (length l.parts) ++ flat_map claim_key (take l.part-index l.parts));
+  fits : AllByRecursion (λ part. FitsClaim (claim_tree part)) (take l.part-index l.parts);
+}
