@@ -77,7 +77,7 @@ fn told<R: Threads + Sync>(
     workers: u32,
 ) -> Result<String, Fail> {
     let texts = text_of(alloc, text)?;
-    let report = check_fresh(rt, alloc, &texts, workers)?;
+    let report = check_fresh(rt, alloc, &texts, workers.min(64))?;
     let told = printed(alloc, &report)?;
     let text = str::from_utf8(&told.text)?;
     Ok(format!(in alloc; "{}|{text}", told.code)?)
