@@ -47,7 +47,7 @@ def c(x: Z): Z = {
   return y
 }
 ",
-        "revision 1\na unproved -:6:12 ensures open\nb verified\nc unproved -:13:5 assert open\nmethods 3 verified 1\n",
+        "revision 1\na unproved -:6:20 ensures open\nb verified\nc unproved -:13:12 assert open\nmethods 3 verified 1\n",
         1,
     ),
     (
